@@ -11,8 +11,8 @@ use Rattle.audit_store.specs.declared.store.Store.{Store}
 use Rattle.audit_store.specs.declared.store_error.StoreError.{StoreError}
 use Rattle.audit_server_commit.specs.Committer.{store_of, stops_of}
 use Rattle.audit_serve_passes.specs.Streams.{StreamCall, CallModel}
-use Rattle.audit_server_model.specs.Serving.{IsRefusedAs, StoreKeepsOn}
-use Rattle.audit_server_model.proofs.Serving.{kept_none, kept_then, served_durably, durably_keeps}
+use Rattle.audit_server_commit.specs.Serving.{IsRefusedAs, StoreKeepsOn}
+use Rattle.audit_server_commit.proofs.ServedSteps.{kept_none, kept_then, served_durably, durably_keeps}
 use Rattle.audit_server.specs.declared.server_core.Core.{Core}
 use Rattle.audit_server.specs.Core.{committer_of, data_of, Refuses}
 use Rattle.audit_server.specs.CoreModel.{core_model, refuses_after}

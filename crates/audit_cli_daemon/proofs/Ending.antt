@@ -7,7 +7,7 @@ use Rattle.std.proofs.lemmas.List.{append_assoc}
 use Rattle.audit_disk_model.specs.declared.sectors.Sectors as sectors
 use Rattle.audit_store.specs.Store.{active_header}
 use Rattle.audit_store.specs.declared.store.Store.{Store}
-use Rattle.audit_server_model.specs.Serving.{StoreKeepsOn}
+use Rattle.audit_server_commit.specs.Serving.{StoreKeepsOn}
 use Rattle.audit_text.specs.NumberedLine.{numbered_line}
 use Rattle.audit_text.specs.Writing.{WritesInPart}
 use Rattle.audit_cli_base.specs.declared.fault.CommandError.{CommandError}

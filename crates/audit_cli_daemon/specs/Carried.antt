@@ -9,7 +9,7 @@ use Rattle.audit_store.specs.Store.{active_header}
 use Rattle.audit_store.specs.declared.store.Store.{Store}
 use Rattle.audit_text.specs.Writing.{WritesInPart}
 use Rattle.audit_server_commit.specs.Committing.{free_after}
-use Rattle.audit_server_model.specs.Serving.{StoreKeepsOn}
+use Rattle.audit_server_commit.specs.Serving.{StoreKeepsOn}
 use Rattle.audit_serve_passes.specs.Streams.{CallModel}
 use Rattle.audit_serve_ready.specs.Door.{DoorModel}
 use Rattle.audit_cli_base.specs.Arguments.{number_asked}

@@ -17,7 +17,7 @@ use Rattle.audit_serve_ready.specs.Backlog.{OwesNothing, AreWithinBacklog}
 use Rattle.audit_serve_ready.specs.Door.{DoorModel}
 use Rattle.audit_serve_ready.specs.Clients.{ServesClients, StopsServing}
 use Rattle.audit_serve_ready.specs.Rounds.{ServesUntilStopped, IsWritten, AnswersWaiting}
-use Rattle.audit_server_model.specs.Serving.{IsRefusedAs}
+use Rattle.audit_server_commit.specs.Serving.{IsRefusedAs}
 use Rattle.audit_server.specs.declared.server_core.Core.{Core}
 use Rattle.audit_server.specs.Core.{committer_of, Refuses}
 use Rattle.audit_server.specs.CoreModel.{core_model}

@@ -14,7 +14,7 @@ ghost use Rattle.audit_server.specs.CoreModel.{core_model};
 ghost use Rattle.audit_server.specs.Runs.{arrivals_through};
 ghost use Rattle.audit_server_commit.specs.Arrivals.{appends_among};
 ghost use Rattle.audit_server_commit.specs.Waiting.{Append};
-ghost use Rattle.audit_server_model.specs.Arrived.{arrivals_from};
+ghost use Rattle.audit_server_commit.specs.Arrived.{arrivals_from};
 ghost use Rattle.audit_cli_daemon.specs.declared.arguments.TheConstants.{DEFAULT_IDLE, DEFAULT_RESERVE};
 ghost use Rattle.audit_cli_daemon.specs.declared.request.Settings.{Settings};
 ghost use Rattle.audit_cli_daemon.specs.Carried.{sources_asked, rights_asked};

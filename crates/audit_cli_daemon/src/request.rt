@@ -35,7 +35,7 @@ ghost use Rattle.audit_store.specs.Store.{active_header};
 ghost use Rattle.audit_server_commit.specs.Committing.{free_after};
 ghost use Rattle.audit_text.specs.NumberedLine.{numbered_line};
 ghost use Rattle.audit_text.specs.Writing.{WritesInPart};
-ghost use Rattle.audit_server_model.specs.Serving.{StoreKeepsOn};
+ghost use Rattle.audit_server_commit.specs.Serving.{StoreKeepsOn};
 
 use crate::arguments::{DEFAULT_IDLE, DEFAULT_RESERVE, backlog_asked, free_asked, free_kept};
 use crate::client_journal::ClientJournal;

@@ -24,7 +24,7 @@ use Rattle.audit_cli_base.specs.declared.fault.CommandError.TheVariants.{File, L
 use Rattle.audit_cli_serve.specs.Arguments.{rounds_asked, sessions_wanted}
 use Rattle.audit_cli_base.specs.declared.fault.CommandError.{CommandError}
 use Rattle.audit_cli_calls.specs.StoreCalls.{StoresModel, an_opening, a_letting_go}
-use Rattle.audit_server_model.specs.Serving.{StoreKeepsOn}
+use Rattle.audit_server_commit.specs.Serving.{StoreKeepsOn}
 use Rattle.audit_cli_serve.specs.Carried.{FailedCalls, HasFailed, IsServingDone, IsUnopened, IsLoopStopped, KeepsOpened, LoopsAt, LoopsThroughAll, LoopsToBad, LosesLoop, LoopsOpened, LoopStopsOpened, ServesAt, ServesWithLines, IsStoppedWith, ServesOpened, StopsOpened}
 use Rattle.audit_cli_serve.specs.Rounds.{round_lines, AreCutOff}
 use Rattle.audit_cli_serve.specs.Served.{CutsFrameOver, LoopsOver, LoopReachesOver, ServesRounds, StopsLoop, StopsRounds}

@@ -9,8 +9,8 @@ use Rattle.audit_store.specs.Store.{is_broken}
 use Rattle.audit_store.specs.declared.store_error.StoreError.{StoreError}
 use Rattle.audit_store.specs.declared.store_error.StoreError.TheVariants.{Memory}
 use Rattle.audit_server_commit.specs.Committer.{store_of}
-use Rattle.audit_server_model.specs.Serving.{IsDurablyServed, IsRefusedAs, StoreKeepsOn}
-use Rattle.audit_server_model.proofs.Serving.{kept_none, durably_keeps}
+use Rattle.audit_server_commit.specs.Serving.{IsDurablyServed, IsRefusedAs, StoreKeepsOn}
+use Rattle.audit_server_commit.proofs.ServedSteps.{kept_none, durably_keeps}
 use Rattle.audit_server.specs.declared.server_core.Core.{Core}
 use Rattle.audit_server.specs.Core.{committer_of, data_of, Refuses}
 use Rattle.audit_server.specs.CoreModel.{core_model}

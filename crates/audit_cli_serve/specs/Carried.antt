@@ -13,7 +13,7 @@ use Rattle.audit_serve_sockets.specs.Input.{SpellsInput, SpellsUpToBad}
 use Rattle.audit_serve_sockets.specs.Listening.{ListenerModel}
 use Rattle.audit_serve_sockets.specs.Looping.{AreLinePasses, IsWholeLoop}
 use Rattle.audit_serve_sockets.specs.declared.link.Link.{Link}
-use Rattle.audit_server_model.specs.Serving.{StoreKeepsOn}
+use Rattle.audit_server_commit.specs.Serving.{StoreKeepsOn}
 use Rattle.audit_text.specs.declared.fault.LinesError.TheVariants.{Read, Write}
 use Rattle.audit_cli_base.specs.Arguments.{RefusesWords}
 use Rattle.audit_cli_calls.specs.StoreCalls.{StoresModel, OpensAndLetsGo, OpensNone}

@@ -10,7 +10,7 @@ use Rattle.audit_serve_passes.specs.Streams.{CallModel}
 use Rattle.audit_serve_passes.specs.Pairs.{duplex_model, inner_of}
 use Rattle.audit_serve_passes.specs.declared.duplex_stream.DuplexStream.{DuplexStream}
 use Rattle.audit_serve_passes.specs.Transition.{Transition, EndsAs, Reached, IsServed, IsCut, AnySteps}
-use Rattle.audit_server_model.specs.Serving.{IsRefusedAs}
+use Rattle.audit_server_commit.specs.Serving.{IsRefusedAs}
 use Rattle.audit_server.specs.declared.server_core.Core.{Core}
 use Rattle.audit_server.specs.Core.{committer_of}
 use Rattle.audit_server.specs.CoreModel.{core_model}

@@ -1,7 +1,7 @@
 //! A session over lines, served by a core over a store.
 ghost use Rattle.std.specs.Prelude.{◌≡◌, ◌⊎◌, ◌≤◌, ◌+◌, ◌^◌, List, ℕ, length, IfSome, IfErr, OnOk, Err};
 ghost use Rattle.audit_text.specs.declared.fault.LinesError.TheVariants.{Write as NotWritten, Read as NotRead};
-ghost use Rattle.audit_server_model.specs.Serving.{StoreKeepsOn};
+ghost use Rattle.audit_server_commit.specs.Serving.{StoreKeepsOn};
 ghost use Rattle.audit_serve_sockets.specs.Input.{SpellsInput, SpellsUpToBad};
 ghost use Rattle.audit_serve_sockets.specs.Carrying.{LosesSome, client_end, server_end};
 ghost use Rattle.audit_serve_sockets.specs.Looping.{AreLinePasses, IsWholeLoop};

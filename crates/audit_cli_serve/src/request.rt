@@ -9,7 +9,7 @@ ghost use Rattle.audit_text.specs.declared.fault.LinesError.TheVariants.{Read as
 ghost use Rattle.audit_serve_sockets.specs.Bound.{CallFailed, IsBound};
 ghost use Rattle.audit_serve_sockets.specs.declared.socket_file.SocketFile.{SocketFile};
 ghost use Rattle.audit_cli_serve.specs.Arguments.{rounds_asked, sessions_wanted};
-ghost use Rattle.audit_server_model.specs.Serving.{StoreKeepsOn};
+ghost use Rattle.audit_server_commit.specs.Serving.{StoreKeepsOn};
 ghost use Rattle.audit_cli_serve.specs.WatchedLines.{watched_lines};
 ghost use Rattle.audit_cli_serve.specs.Carried.{ServesAt, ServesOpened, IsStoppedWith, StopsOpened, LoopsAt};
 ghost use Rattle.audit_cli_serve.specs.Carried.{LoopsOpened, LoopStopsOpened, IsLoopStopped, IsUnopened};

@@ -3,7 +3,7 @@ ghost use Rattle.std.specs.Prelude.{◌≡◌, ◌⊎◌, ◌≤◌, List, ℕ, 
 ghost use Rattle.audit_text.specs.declared.fault.LinesError.TheVariants.{Write as NotWritten};
 ghost use Rattle.std.specs.Io.KnownBytes.{Appends};
 ghost use Rattle.audit_base.specs.declared.limits.TheConstants.{SESSIONS};
-ghost use Rattle.audit_server_model.specs.Serving.{StoreKeepsOn};
+ghost use Rattle.audit_server_commit.specs.Serving.{StoreKeepsOn};
 ghost use Rattle.audit_cli_serve.specs.Rounds.{round_lines};
 ghost use Rattle.audit_store.specs.declared.store_error.StoreError.TheVariants.{Memory};
 ghost use Rattle.audit_cli_base.specs.declared.fault.CommandError.TheVariants.{File, Lines, Refused};

@@ -17,10 +17,10 @@ use Rattle.audit_server_commit.specs.Committer.{store_of, outputs_of, state_of}
 use Rattle.audit_server_commit.specs.Durable.{IsDurable}
 use Rattle.audit_serve_passes.specs.Steps.{StepData, a_piece, an_end, a_flush, IsPartOf}
 use Rattle.audit_serve_passes.specs.Core.{GoesBy, no_bytes}
-use Rattle.audit_server_model.specs.Sessions.{SessionData, no_session, sessions_run, arrivals_by_piece, arrivals_run}
-use Rattle.audit_server_model.specs.Serving.{CoreData, IsDurablyServed}
-use Rattle.audit_server_model.proofs.Serving.{put_back_none, durably_none, durably_more}
-use Rattle.audit_server_model.proofs.Taking.{nothing_taken}
+use Rattle.audit_server_commit.specs.Sessions.{SessionData, no_session, sessions_run, arrivals_by_piece, arrivals_run}
+use Rattle.audit_server_commit.specs.Serving.{CoreData, IsDurablyServed}
+use Rattle.audit_server_commit.proofs.ServedSteps.{put_back_none, durably_none, durably_more}
+use Rattle.audit_server_commit.proofs.Taking.{nothing_taken}
 use Rattle.audit_server.specs.Running.{AddsReplies}
 use Rattle.audit_server.proofs.Replies.{flush_adds_any, arrival_ends, piece_ends}
 use Rattle.audit_server.specs.declared.step.Step.{Step}

@@ -6,10 +6,10 @@ use Rattle.audit_wire.specs.declared.request.Request.{Request}
 use Rattle.audit_server_commit.specs.declared.question.Query.{Query}
 use Rattle.audit_server_commit.specs.Arrivals.{Arrival, arrival_of}
 use Rattle.audit_serve_passes.specs.Core.{RequestKind}
-use Rattle.audit_server_model.specs.Heard.{Heard, heard, is_last, ends_session, last_arrival, arrivals_heard, requests_in_front}
-use Rattle.audit_server_model.specs.Sessions.{SessionData, heard_after, arrivals_by_piece}
-use Rattle.audit_server_model.proofs.Hearing.{heard_on, heard-append}
-use Rattle.audit_server.specs.CoreModel.{kind_of}
+use Rattle.audit_server_commit.specs.Heard.{Heard, heard, is_last, ends_session, last_arrival, arrivals_heard, requests_in_front}
+use Rattle.audit_server_commit.specs.Sessions.{SessionData, heard_after, arrivals_by_piece}
+use Rattle.audit_server_commit.proofs.Hearing.{heard_on, heard-append}
+use Rattle.audit_server.specs.RequestKinds.{kind_of}
 
 none_last : (k : ℕ) (last : Option Query) → is_last last ≡ false → last_arrival k last ≡ []
 none_last k None live = refl

@@ -25,15 +25,16 @@ use Rattle.audit_serve_passes.specs.declared.allowance.Allowance.{Allowance}
 use Rattle.audit_serve_passes.specs.Allowance.{has_room, has_room_to_ask, share_after_asking, spent}
 use Rattle.audit_serve_passes.specs.Core.{RequestKind, appending, asking, asked_by}
 use Rattle.audit_serve_passes.specs.Owing.{GrowsWithin, OwesNoMore, OwesWithin, OwesAtEnd, IsDemandFor, IsBeyondAllowance}
-use Rattle.audit_server_model.specs.Sessions.{SessionData, arrivals_by_piece, arrivals_of_rest, arrivals_by_end, heard_after}
-use Rattle.audit_server_model.specs.Heard.{Heard, last_arrival, arrivals_heard}
+use Rattle.audit_server_commit.specs.Sessions.{SessionData, arrivals_by_piece, arrivals_of_rest, arrivals_by_end, heard_after}
+use Rattle.audit_server_commit.specs.Heard.{Heard, last_arrival, arrivals_heard}
 use Rattle.audit_server.specs.declared.limit.Limit.{Limit}
 use Rattle.audit_server.specs.declared.limit.Limit.TheVariants as limit
 use Rattle.audit_server.specs.declared.server_core.Core.{Core}
 use Rattle.audit_server.specs.Limit.{AreAdmitted}
 use Rattle.audit_server.specs.Running.{HaveEntered}
 use Rattle.audit_server.specs.Core.{committer_of, session_of, is_core_broken, IsSound, AllowedOutcome, EndOutcome, IsCoreUntouched}
-use Rattle.audit_server.specs.CoreModel.{core_model, kind_of, longest_replies}
+use Rattle.audit_server.specs.CoreModel.{core_model}
+use Rattle.audit_server.specs.RequestKinds.{kind_of, longest_replies}
 use Rattle.audit_server.specs.Limit.{IsPriceOf, IsNotAdmitted}
 use Rattle.audit_server.proofs.NextRequests.{next_kind}
 

@@ -12,8 +12,8 @@ use Rattle.audit_wire.specs.Progress.{DecoderProgress, reading, whole, malformed
 use Rattle.audit_server_commit.specs.declared.question.Query.{Query}
 use Rattle.audit_server_commit.specs.declared.question.Query.TheVariants.{NotAllowed}
 use Rattle.audit_serve_passes.specs.declared.rights.Rights.{Rights}
-use Rattle.audit_server_model.specs.Heard.{Terms, Heard, allows, request_tag, is_not_allowed, heard_rest, stops_with, request_in_front, requests_in_front, heard_of, heard, last_arrival, arrivals_heard}
-use Rattle.audit_server_model.proofs.Hearing.{heard_partial}
+use Rattle.audit_server_commit.specs.Heard.{Terms, Heard, allows, request_tag, is_not_allowed, heard_rest, stops_with, request_in_front, requests_in_front, heard_of, heard, last_arrival, arrivals_heard}
+use Rattle.audit_server_commit.proofs.Hearing.{heard_partial}
 use Rattle.audit_server_commit.specs.Arrivals.{Arrival, a_question, arrival_of, malformed_from}
 use Rattle.audit_store.specs.Store.{is_broken}
 use Rattle.audit_store.specs.declared.store_error.StoreError.{StoreError}
@@ -22,7 +22,7 @@ use Rattle.audit_server_commit.specs.Committer.{store_of}
 use Rattle.audit_server_commit.specs.Entering.{IsArrivalEnd}
 use Rattle.audit_server.specs.Ending.{IsFrameEnd}
 use Rattle.audit_server.specs.declared.feed_fault.FeedFault.{FeedFault}
-use Rattle.audit_server_model.specs.Sessions.{SessionData, heard_after, session_after, with_piece, arrivals_by_piece, arrivals_of_rest, arrivals_by_end}
+use Rattle.audit_server_commit.specs.Sessions.{SessionData, heard_after, session_after, with_piece, arrivals_by_piece, arrivals_of_rest, arrivals_by_end}
 use Rattle.audit_server.specs.Running.{HaveEntered, IsRefusedAfter, Run}
 use Rattle.audit_server.specs.Entering.{arrival_by, item_heard, Enters}
 use Rattle.audit_server.specs.declared.limit.Limit.{Limit}

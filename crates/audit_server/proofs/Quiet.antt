@@ -14,7 +14,7 @@ use Rattle.audit_server_commit.specs.Committer.{waiting_of, outputs_of}
 use Rattle.audit_server_commit.specs.Entering.{IsReady, HasEntered}
 use Rattle.audit_serve_passes.specs.CallLaws.{or_false}
 use Rattle.audit_serve_passes.specs.Ending.{EndsQuietly}
-use Rattle.audit_server_model.specs.Sessions.{SessionData, arrivals_of_rest, arrivals_by_end}
+use Rattle.audit_server_commit.specs.Sessions.{SessionData, arrivals_of_rest, arrivals_by_end}
 use Rattle.audit_server.specs.declared.server_core.Core.{Core}
 use Rattle.audit_server.specs.Running.{HaveEntered}
 use Rattle.audit_server.specs.Core.{committer_of, session_of, EndOutcome}

@@ -16,8 +16,8 @@ use Rattle.audit_server_commit.specs.Committing.{IsCommitEnd}
 use Rattle.audit_server_commit.specs.Flush.{IsFlushed, FlushOutcome}
 use Rattle.audit_server_commit.specs.Committer.{store_of, waiting_of}
 use Rattle.audit_server_commit.specs.Entering.{IsReady, HasEntered, IsArrivalEnd}
-use Rattle.audit_server_model.specs.Serving.{IsRefusedAs}
-use Rattle.audit_server_model.proofs.Serving.{refused_then}
+use Rattle.audit_server_commit.specs.Serving.{IsRefusedAs}
+use Rattle.audit_server_commit.proofs.ServedSteps.{refused_then}
 use Rattle.audit_server.specs.declared.feed_fault.FeedFault.{FeedFault}
 use Rattle.audit_server.specs.declared.server_core.Core.{Core}
 use Rattle.audit_server.specs.Running.{HaveEntered}

@@ -17,7 +17,7 @@ use Rattle.audit_server_commit.specs.Durable.{IsDurable}
 use Rattle.audit_server_commit.specs.Entering.{HasEntered, IsArrivalEnd, IsLeftByFlush, IsEntered}
 use Rattle.audit_server_commit.proofs.Unchanged.{faultless_first, faultless_next}
 use Rattle.audit_server_commit.proofs.Durability.{durable_trans, durable_queued}
-use Rattle.audit_server_model.proofs.Steps.{entered-append, appends-append}
+use Rattle.audit_server_commit.proofs.SessionSteps.{entered-append, appends-append}
 use Rattle.audit_server.specs.Running.{HaveEntered, AdvancesBy, IsRefusedAfter, Run}
 use Rattle.audit_server.specs.Entering.{Enters}
 

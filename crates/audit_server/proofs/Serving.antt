@@ -8,10 +8,10 @@ use Rattle.audit_server_commit.specs.Committer.{store_of, outputs_of, state_of}
 use Rattle.audit_server_commit.specs.Durable.{IsDurable}
 use Rattle.audit_serve_passes.specs.Steps.{StepData}
 use Rattle.audit_serve_passes.specs.Core.{no_bytes}
-use Rattle.audit_server_model.specs.Sessions.{arrivals_run}
-use Rattle.audit_server_model.specs.Serving.{HasServed}
-use Rattle.audit_server_model.proofs.Serving.{put_back_none}
-use Rattle.audit_server_model.proofs.Taking.{nothing_taken}
+use Rattle.audit_server_commit.specs.Sessions.{arrivals_run}
+use Rattle.audit_server_commit.specs.Serving.{HasServed}
+use Rattle.audit_server_commit.proofs.ServedSteps.{put_back_none}
+use Rattle.audit_server_commit.proofs.Taking.{nothing_taken}
 use Rattle.audit_server.specs.declared.server_core.Core.{Core}
 use Rattle.audit_server.specs.Core.{committer_of, sessions_of, data_of, is_core_broken, IsSound, IsCoreUntouched, HasDone}
 

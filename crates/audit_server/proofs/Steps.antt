@@ -15,9 +15,9 @@ use Rattle.audit_server_commit.specs.Flush.{FlushOutcome, IsFlush}
 use Rattle.audit_serve_passes.specs.Steps.{StepData, a_piece, an_end, a_flush}
 use Rattle.audit_server.specs.declared.feed_fault.FeedFault.{FeedFault}
 use Rattle.audit_server.specs.declared.server_core.Core.{Core}
-use Rattle.audit_server_model.specs.Sessions.{SessionData, sessions_after, arrivals_by, state_after, sessions_run, arrivals_run, session_run}
-use Rattle.audit_server_model.specs.Serving.{IsRefusedAs}
-use Rattle.audit_server_model.proofs.Serving.{refused_then}
+use Rattle.audit_server_commit.specs.Sessions.{SessionData, sessions_after, arrivals_by, state_after, sessions_run, arrivals_run, session_run}
+use Rattle.audit_server_commit.specs.Serving.{IsRefusedAs}
+use Rattle.audit_server_commit.proofs.ServedSteps.{refused_then}
 use Rattle.audit_server.specs.Running.{AddsReplies, IsBrokenByDevice, AdvancesBy}
 use Rattle.audit_server.specs.Core.{committer_of, sessions_of, is_core_broken, IsSound, IsCoreUntouched, Refuses, PieceOutcome, EndOutcome, HasDone}
 use Rattle.audit_server.specs.declared.step.Step.{Step}
@@ -26,7 +26,7 @@ use Rattle.audit_server.specs.Driving.{step_data, broken_drive, IsStepRefused, I
 use Rattle.audit_server.proofs.Sound.{flushed_sound, all_sound}
 use Rattle.audit_server.proofs.Refusals.{failures_of, flushed_counts, all_count}
 use Rattle.audit_server.proofs.Replies.{adds_none, adds_more, flush_adds, all_add, broken_after}
-use Rattle.audit_server_model.proofs.Steps.{appends-append, sessions-append, arrivals-append, run-append}
+use Rattle.audit_server_commit.proofs.SessionSteps.{appends-append, sessions-append, arrivals-append, run-append}
 use Rattle.audit_server.proofs.Runs.{advances_none, advances_more, advances_as}
 
 abbrev refusal_of : FeedFault → Result (Unit {0}) FeedFault

@@ -9,8 +9,8 @@ use Rattle.audit_server_commit.specs.Committer.{store_of}
 use Rattle.audit_serve_passes.specs.Steps.{StepData}
 use Rattle.audit_server.specs.declared.server_core.Core.{Core}
 use Rattle.audit_server.specs.declared.feed_fault.FeedFault.{FeedFault}
-use Rattle.audit_server_model.specs.Sessions.{SessionData, session_at, sessions_run, arrivals_run, session_run}
-use Rattle.audit_server_model.specs.Serving.{CoreData, IsRefusedAs}
+use Rattle.audit_server_commit.specs.Sessions.{SessionData, session_at, sessions_run, arrivals_run, session_run}
+use Rattle.audit_server_commit.specs.Serving.{CoreData, IsRefusedAs}
 use Rattle.audit_server.specs.Running.{AddsReplies, AdvancesBy}
 use Rattle.audit_serve_passes.specs.declared.allowance.Allowance.{Allowance}
 use Rattle.audit_server.specs.declared.limit.Limit.{Limit}

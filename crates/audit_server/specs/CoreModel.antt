@@ -1,53 +1,28 @@
 -- Why `Core` is a core that serves sessions.
 use Rattle.std.specs.Prelude.{◌≡◌, ℕ, ◌+◌, Bool, List, [], ◌∷◌, length, map, slice_index_or, slice_set}
-use Rattle.std.specs.List.{AllByRecursion}
-use Rattle.std.proofs.Common.{◌∙◌, refl, sym, ap, arith}
+use Rattle.std.proofs.Common.{◌∙◌, sym, ap}
 use Rattle.std.proofs.lemmas.List.{get_or-set_other}
 use Rattle.audit_disk_model.specs.declared.sectors.Sectors as sectors
 use Rattle.audit_store.specs.declared.store_error.StoreError.{StoreError}
 use Rattle.audit_wire.specs.declared.limits.TheConstants.{PLACED_FRAME, MAX_MEMBERSHIP_FRAME, REFUSAL_FRAME}
-use Rattle.audit_server_commit.specs.Arrivals.{Arrival, an_append, a_question}
 use Rattle.audit_server_commit.specs.Waiting.{Waiting, nothing_waits, items_waiting}
-use Rattle.audit_server_commit.specs.LongestReplies.{longest_answer, longest_reply, owed_for_waiting}
+use Rattle.audit_server_commit.specs.LongestReplies.{owed_for_waiting}
 use Rattle.audit_server_commit.specs.Owing.{owed_of}
 use Rattle.audit_server_commit.specs.Committer.{waiting_of, outputs_of}
-use Rattle.audit_serve_passes.specs.Steps.{StepData, IsAbout}
+use Rattle.audit_serve_passes.specs.Steps.{StepData}
 use Rattle.audit_serve_passes.specs.declared.rights.Rights.{Rights}
-use Rattle.audit_serve_passes.specs.Core.{CoreModel, RequestKind, appending, asking}
+use Rattle.audit_serve_passes.specs.Core.{CoreModel}
 use Rattle.audit_server.specs.declared.server_core.Core.{Core}
-use Rattle.audit_server_model.specs.Heard.{daemon_terms}
-use Rattle.audit_server_model.specs.Sessions.{SessionData, begun_session, no_session, session_at, sessions_run}
-use Rattle.audit_server_model.specs.Sessions.{sessions_after, arrivals_by_piece}
+use Rattle.audit_server_commit.specs.Heard.{daemon_terms}
+use Rattle.audit_server_commit.specs.Sessions.{SessionData, begun_session, no_session, session_at, sessions_run}
+use Rattle.audit_server_commit.specs.Sessions.{arrivals_by_piece}
 use Rattle.audit_server.specs.Core.{committer_of, sessions_of, data_of, Refuses}
-use Rattle.audit_server_model.specs.Serving.{HasServed, IsDurablyServed}
-use Rattle.audit_server_model.proofs.Steps.{sessions-append}
-use Rattle.audit_server_model.proofs.Serving.{served_none, served_more, served_durably, served_refused, durably_more}
-use Rattle.audit_server_model.proofs.Serving.{stays, ended_through}
-
-pub nothing_more : (bytes : ℕ) → bytes + (0 + 0) ≡ bytes
-nothing_more bytes = omega arith
-
--- A close is an append too. What ends a session is answered as a question.
-abbrev pub kind_of : Arrival → RequestKind
-kind_of (an_append append) = appending
-kind_of (a_question question) = asking (longest_answer question.query)
-
--- the longest replies to arrivals, all of them
-abbrev pub longest_replies : List Arrival → ℕ
-longest_replies [] = 0
-longest_replies (arrival ∷ arrivals) = longest_reply arrival + longest_replies arrivals
-
-pub none_to_answer : (arrivals : List Arrival) → map kind_of arrivals ≡ [] → longest_replies arrivals ≡ 0
-none_to_answer [] none = refl
-none_to_answer (arrival ∷ arrivals) none = absurd (cc none)
-
--- steps about others leave a session as it is
-pub stays_through : (k : ℕ) (steps : List StepData) (sessions : List SessionData)
-    → AllByRecursion (λ step. IsAbout k step → ⊥) steps
-    → session_at k (sessions_run steps sessions) ≡ session_at k sessions
-stays_through k [] sessions others = refl
-stays_through k (step ∷ steps) sessions others =
-    stays_through k steps (sessions_after step sessions) others.1 ∙ stays sessions step k others.0
+use Rattle.audit_server_commit.specs.Serving.{HasServed, IsDurablyServed}
+use Rattle.audit_server_commit.proofs.SessionSteps.{sessions-append}
+use Rattle.audit_server_commit.proofs.ServedSteps.{served_none, served_more, served_durably, served_refused, durably_more}
+use Rattle.audit_server_commit.proofs.ServedSteps.{stays, ended_through}
+use Rattle.audit_server.specs.CoreLaws.{none_to_answer, nothing_more, stays_through}
+use Rattle.audit_server.specs.RequestKinds.{kind_of, longest_replies}
 
 module _ {D : Type 0} {g : sectors.Ghosts D} where
   -- whether a session has ended after a core has done these steps

@@ -6,7 +6,7 @@ use Rattle.audit_store.specs.declared.store_error.StoreError.{StoreError}
 use Rattle.audit_store.specs.declared.store_error.StoreError.TheVariants.{Broken}
 use Rattle.audit_server_commit.specs.declared.committer.Committer.{Committer}
 use Rattle.audit_server_commit.specs.Entering.{IsArrivalEnd}
-use Rattle.audit_server_model.specs.Sessions.{SessionData, ended_session, arrivals_by_end}
+use Rattle.audit_server_commit.specs.Sessions.{SessionData, ended_session, arrivals_by_end}
 use Rattle.audit_server.specs.Running.{Run, IsRefusedAfter}
 
 module _ {D : Type 0} {g : sectors.Ghosts D} where

@@ -10,7 +10,7 @@ use Rattle.audit_server_commit.specs.declared.question.Query.{Query}
 use Rattle.audit_server_commit.specs.declared.question.Query.TheVariants as query
 use Rattle.audit_server_commit.specs.Arrivals.{Arrival, a_question, arrival_of}
 use Rattle.audit_serve_passes.specs.declared.rights.Rights.{Rights}
-use Rattle.audit_server_model.specs.Heard.{allows, request_tag, is_not_allowed}
+use Rattle.audit_server_commit.specs.Heard.{allows, request_tag, is_not_allowed}
 use Rattle.audit_store.specs.Store.{Holds}
 use Rattle.audit_store.specs.declared.store_error.StoreError.{StoreError}
 use Rattle.audit_store.specs.declared.store_error.StoreError.TheVariants.{Memory}

@@ -8,13 +8,13 @@ use Rattle.audit_wire.specs.declared.fed.Fed.TheVariants as fed
 use Rattle.audit_wire.specs.Progress.{DecoderProgress, rest_of, is_spoiled}
 use Rattle.audit_server_commit.specs.declared.question.Query.{Query}
 use Rattle.audit_server_commit.specs.Arrivals.{Arrival, a_question, arrival_of}
-use Rattle.audit_server_model.specs.Heard.{Terms, heard_rest, stops_with, request_in_front}
+use Rattle.audit_server_commit.specs.Heard.{Terms, heard_rest, stops_with, request_in_front}
 use Rattle.audit_store.specs.declared.store_error.StoreError.TheVariants.{Broken}
 use Rattle.audit_server_commit.specs.declared.committer.Committer.{Committer}
 use Rattle.audit_server.specs.declared.feed_fault.FeedFault.{FeedFault}
 use Rattle.audit_server.specs.declared.session.Front.{Front}
 use Rattle.audit_server.specs.declared.session.Front.TheVariants as front
-use Rattle.audit_server_model.specs.Sessions.{SessionData, session_after, heard_after, with_piece, arrivals_by_piece}
+use Rattle.audit_server_commit.specs.Sessions.{SessionData, session_after, heard_after, with_piece, arrivals_by_piece}
 use Rattle.audit_server.specs.declared.limit.Limit.{Limit}
 use Rattle.audit_server.specs.Limit.{IsNotAdmitted, AreAdmitted}
 use Rattle.audit_server.specs.Running.{HaveEntered, Run, IsRefusedAfter}

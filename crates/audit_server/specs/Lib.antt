@@ -6,6 +6,8 @@ pub mod Ending
 pub mod Core
 pub mod Driving
 pub mod CoreModel
+pub mod CoreLaws
+pub mod RequestKinds
 pub mod Acknowledged
 pub mod Runs
 pub mod Lives

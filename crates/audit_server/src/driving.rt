@@ -3,7 +3,7 @@ ghost use Rattle.std.specs.Prelude.{◌≡◌, [], ◌∷◌, Err, OnOk, IfErr, 
 ghost use Rattle.std.specs.List.{AllByRecursion};
 ghost use Rattle.audit_store.specs.declared.store_error.StoreError.TheVariants.{Broken, Device};
 ghost use Rattle.audit_serve_passes.specs.Core.{no_bytes};
-ghost use Rattle.audit_server_model.specs.Serving.{IsDurablyServed};
+ghost use Rattle.audit_server_commit.specs.Serving.{IsDurablyServed};
 ghost use Rattle.audit_server.specs.Running.{IsBrokenByDevice};
 ghost use Rattle.audit_server.specs.Core.{committer_of, data_of, is_core_broken, IsSound, IsCoreUntouched, Refuses};
 ghost use Rattle.audit_server.specs.Core.{HasDone};

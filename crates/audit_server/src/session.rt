@@ -48,7 +48,7 @@ fn place_after(fed: Fed) -> Option<usize>
 }
 
 impl Model for Session {
-    ghost use Rattle.audit_server_model.specs.Sessions.{SessionData};
+    ghost use Rattle.audit_server_commit.specs.Sessions.{SessionData};
     ghost use Rattle.audit_server.specs.Feeding.{session_view, IsLive};
 
     ghost Value = { SessionData };
@@ -64,7 +64,7 @@ impl Session {
     ghost use Rattle.audit_base.specs.declared.limits.TheConstants.{SESSIONS};
     ghost use Rattle.audit_store.specs.Store.{is_broken};
     ghost use Rattle.audit_server_commit.specs.Committer.{store_of};
-    ghost use Rattle.audit_server_model.specs.Sessions.{begun_session, ended_session};
+    ghost use Rattle.audit_server_commit.specs.Sessions.{begun_session, ended_session};
     ghost use Rattle.audit_server.specs.Feeding.{IsFront, IsFedWithin};
     ghost use Rattle.audit_server.specs.Ending.{IsFrameEnd, IsEnd};
 

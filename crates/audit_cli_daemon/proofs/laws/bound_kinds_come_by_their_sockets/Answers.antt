@@ -1,7 +1,7 @@
 use Rattle.std.specs.Prelude.{Contains}
 use Rattle.std.proofs.Common.{◌∙◌, ap, subst}
 use Rattle.audit_server_commit.specs.Arrivals.{appends_among}
-use Rattle.audit_server_model.specs.Heard.{daemon_terms}
+use Rattle.audit_server_commit.specs.Heard.{daemon_terms}
 use Rattle.audit_server.specs.Rights.{IsRightful}
 use Rattle.audit_cli_daemon.specs.Carried.{sources_asked}
 use Rattle.audit_cli_daemon.specs.Sources.{words_of}

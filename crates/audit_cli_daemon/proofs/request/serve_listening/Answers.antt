@@ -5,7 +5,8 @@ use Rattle.audit_serve_door.specs.Metered.{metered_calls}
 use Rattle.audit_serve_door.specs.Nonblocking.{nonblocking_calls, unknown_prompt}
 use Rattle.audit_serve_door.specs.Accepting.{unknown_accepting}
 use Rattle.audit_serve_door.specs.Notes.{unknown_notes}
-use Rattle.audit_serve_door.specs.Comings.{who_waits, places_of, was_told, is_replaced, has_failed, socket_door_calls}
+use Rattle.audit_serve_door.specs.Comings.{who_waits, places_of, was_told, is_replaced, has_failed}
+use Rattle.audit_serve_door.specs.DoorCalls.{socket_door_calls}
 use Rattle.audit_serve_door.specs.Idle.{IsVacant}
 use Rattle.audit_serve_door.specs.Waits.{NobodyWaits}
 use Rattle.audit_cli_daemon.specs.Carried.{terms_of}
@@ -17,7 +18,7 @@ use Rattle.audit_cli_daemon.proofs.Carried.{serves_at_door, end_asked}
 use Rattle.audit_cli_daemon.proofs.Daemon.{stops_no_word}
 use Rattle.audit_text.specs.Writing.{WritesInPart}
 use Rattle.audit_store.specs.Store.{active_header}
-use Rattle.audit_server_model.proofs.Serving.{kept_none}
+use Rattle.audit_server_commit.proofs.ServedSteps.{kept_none}
 use Rattle.audit_cli_daemon.specs.State.{ready_line, end_in}
 use Rattle.audit_cli_daemon.proofs.Ending.{part_of_both, whole_of}
 use Rattle.audit_cli_daemon.proofs.request.serve_listening.Goals as goal

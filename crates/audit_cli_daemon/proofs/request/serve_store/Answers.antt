@@ -6,7 +6,7 @@ use Rattle.audit_serve_door.specs.Metered.{metered_calls}
 use Rattle.audit_serve_door.specs.Nonblocking.{nonblocking_calls, unknown_prompt}
 use Rattle.audit_serve_door.specs.Accepting.{unknown_accepting}
 use Rattle.audit_serve_door.specs.Notes.{unknown_notes}
-use Rattle.audit_serve_door.specs.Comings.{socket_door_calls}
+use Rattle.audit_serve_door.specs.DoorCalls.{socket_door_calls}
 use Rattle.audit_cli_daemon.specs.Gauged.{gauged_calls, watch_of_file, IsTold, IsEnding}
 use Rattle.audit_cli_calls.specs.StoreCalls.{LetsGo}
 use Rattle.audit_cli_daemon.specs.Carried.{ServesAtDoor, terms_of}
@@ -15,8 +15,8 @@ use Rattle.audit_cli_daemon.specs.Sockets.{rights_served, paths_served, ListenAt
 use Rattle.audit_cli_daemon.specs.declared.end.End.TheVariants.{Full}
 use Rattle.audit_cli_daemon.specs.State.{ready_line}
 use Rattle.audit_text.specs.Writing.{WritesInPart}
-use Rattle.audit_server_model.specs.Serving.{StoreKeepsOn}
-use Rattle.audit_server_model.proofs.Serving.{kept_none}
+use Rattle.audit_server_commit.specs.Serving.{StoreKeepsOn}
+use Rattle.audit_server_commit.proofs.ServedSteps.{kept_none}
 use Rattle.audit_cli_base.specs.Faults.{IsNoWordFault}
 use Rattle.audit_cli_daemon.proofs.BindFaults.{no_word}
 use Rattle.audit_cli_daemon.proofs.Carried.{serves_between, served_there}

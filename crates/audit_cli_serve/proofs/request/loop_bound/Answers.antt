@@ -1,4 +1,4 @@
-use Rattle.audit_server_model.proofs.Serving.{kept_none}
+use Rattle.audit_server_commit.proofs.ServedSteps.{kept_none}
 use Rattle.std.proofs.Common.{inr}
 use Rattle.audit_cli_serve.proofs.Carried.{bad_at, lost_on, loops_at, through_all}
 use Rattle.audit_cli_serve.proofs.request.loop_bound.Goals as goal

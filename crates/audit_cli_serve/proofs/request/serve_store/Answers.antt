@@ -1,5 +1,5 @@
 use Rattle.std.proofs.Common.{Err, rules}
-use Rattle.audit_server_model.proofs.Serving.{kept_none}
+use Rattle.audit_server_commit.proofs.ServedSteps.{kept_none}
 use Rattle.audit_serve_passes.specs.Pairs.{unknown_calls}
 use Rattle.audit_serve_sockets.specs.Bound.{IsBound}
 use Rattle.audit_serve_sockets.specs.Listening.{unknown_connections}

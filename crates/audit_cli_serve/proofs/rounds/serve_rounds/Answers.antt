@@ -1,7 +1,7 @@
 use Rattle.std.proofs.Common.{◌≡◌, ◌∙◌, Err, ap, sym, inl, inr, refl, [], ◌∷◌, ◌++◌, ◌+◌, Result, ℕ, arith, length-append, subst}
 use Rattle.std.specs.Prelude.{IfOk, IfErr}
 use Rattle.std.proofs.KnownBytes.{Appends-nil}
-use Rattle.audit_server_model.proofs.Serving.{kept_none, kept_then}
+use Rattle.audit_server_commit.proofs.ServedSteps.{kept_none, kept_then}
 use Rattle.audit_text.specs.declared.fault.LinesError.{LinesError}
 use Rattle.audit_text.specs.declared.fault.LinesError.TheVariants.{Memory, Write}
 use Rattle.audit_cli_base.specs.declared.fault.CommandError.TheVariants.{File, Lines}

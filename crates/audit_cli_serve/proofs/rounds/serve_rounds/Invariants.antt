@@ -1,6 +1,6 @@
 use Rattle.std.proofs.Common.{◌≡◌, ℕ, List, length}
 use Rattle.std.specs.Io.KnownBytes.{Appends}
-use Rattle.audit_server_model.specs.Serving.{StoreKeepsOn}
+use Rattle.audit_server_commit.specs.Serving.{StoreKeepsOn}
 use Rattle.audit_cli_serve.specs.Rounds.{round_lines}
 use Rattle.audit_cli_serve.specs.Served.{ServesRounds}
 use Rattle.audit_cli_serve.proofs.rounds.serve_rounds.Given as goal

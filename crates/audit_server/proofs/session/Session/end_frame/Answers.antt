@@ -1,7 +1,7 @@
 use Rattle.std.proofs.Common.{◌≡◌, ◌∙◌, false, sym, ap}
-use Rattle.audit_server_model.specs.Heard.{Terms}
+use Rattle.audit_server_commit.specs.Heard.{Terms}
 use Rattle.audit_server_commit.specs.Arrivals.{malformed_from}
-use Rattle.audit_server_model.specs.Sessions.{SessionData}
+use Rattle.audit_server_commit.specs.Sessions.{SessionData}
 use Rattle.audit_server.proofs.Runs.{enters_by}
 use Rattle.audit_server.proofs.Pieces.{Shows, pending_so, not_pending_so, end_ended, end_idle, end_begun}
 use Rattle.audit_server.proofs.session.Session.end_frame.Goals as goal

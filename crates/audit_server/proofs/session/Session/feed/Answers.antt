@@ -1,5 +1,5 @@
 use Rattle.std.proofs.Common.{◌∙◌, sym, ap}
-use Rattle.audit_server_model.specs.Sessions.{SessionData}
+use Rattle.audit_server_commit.specs.Sessions.{SessionData}
 use Rattle.audit_server.proofs.Pieces.{fed_ended}
 use Rattle.audit_server.proofs.session.Session.feed.Goals as goal
 

@@ -2,7 +2,7 @@ use Rattle.std.proofs.Common.{◌∙◌, ◌∷◌, [], Ok, Err, Result, List, �
 use Rattle.audit_wire.specs.declared.request.Request.{Request}
 use Rattle.audit_wire.specs.Request.{request_by}
 use Rattle.audit_server_commit.specs.declared.question.Query.{Query}
-use Rattle.audit_server_model.specs.Heard.{Terms}
+use Rattle.audit_server_commit.specs.Heard.{Terms}
 use Rattle.audit_server.specs.declared.entering.Item.{Item}
 use Rattle.audit_server.specs.Limit.{IsNotAdmitted, AreAdmitted}
 use Rattle.audit_server.specs.Entering.{Enters, IsItem, arrival_by, item_heard}

@@ -2,9 +2,9 @@ use Rattle.std.proofs.Common.{◌≡◌, Result, Ok, Err, OnErr, [], List, sym, 
 use Rattle.audit_disk_model.specs.declared.sectors.Sectors as sectors
 use Rattle.audit_server_commit.specs.declared.committer.Committer.{Committer}
 use Rattle.audit_serve_passes.specs.Core.{no_bytes}
-use Rattle.audit_server_model.specs.Sessions.{SessionData}
-use Rattle.audit_server_model.specs.Serving.{HasServed}
-use Rattle.audit_server_model.proofs.Serving.{served_none}
+use Rattle.audit_server_commit.specs.Sessions.{SessionData}
+use Rattle.audit_server_commit.specs.Serving.{HasServed}
+use Rattle.audit_server_commit.proofs.ServedSteps.{served_none}
 use Rattle.audit_server.specs.declared.server_core.Core.{Core}
 use Rattle.audit_server.specs.Core.{committer_of, sessions_of, data_of}
 use Rattle.audit_server.proofs.session_core.CoreSessionCore.reopen.Goals as goal

@@ -1,7 +1,7 @@
 use Rattle.std.proofs.Common.{ℕ, List, [], sym, subst}
 use Rattle.audit_serve_passes.specs.Core.{bytes_for}
-use Rattle.audit_server_model.specs.Serving.{HasServed}
-use Rattle.audit_server_model.proofs.Serving.{served_taken}
+use Rattle.audit_server_commit.specs.Serving.{HasServed}
+use Rattle.audit_server_commit.proofs.ServedSteps.{served_taken}
 use Rattle.audit_server.specs.Core.{data_of}
 use Rattle.audit_server.proofs.session_core.CoreSessionCore.take_output.Goals as goal
 
