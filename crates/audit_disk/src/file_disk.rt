@@ -3,11 +3,6 @@ ghost use Rattle.std.specs.Prelude.{true, Option, None};
 ghost use Rattle.std.specs.Option.{is_some};
 ghost use Rattle.audit_base.specs.declared.limits.TheConstants.{SECTOR_SIZE};
 ghost use Rattle.audit_disk.specs.File.{IsUnusedFile};
-ghost use Rattle.audit_disk.specs.FileView.{file_view};
-ghost use Rattle.audit_disk.specs.RowLaws.{sectors_fit, whole_active};
-ghost use Rattle.audit_disk.specs.Rows.{active_row};
-ghost use Rattle.audit_disk.specs.KeptRow.{kept_sectors};
-ghost use Rattle.audit_disk.specs.KeptRowLaws.{whole_kept};
 
 use crate::counting::counted;
 use crate::kept_row::KeptRow;
@@ -273,24 +268,7 @@ impl<F: SectorFile> Sectors for FileDisk<F> {
     ghost use Rattle.audit_disk.specs.FileDisk.{file_disk_view, file_of, has_stopped, waiting, HasLostRow};
     ghost use Rattle.audit_disk.specs.FileDisk.{PassesCalls, IsShut, IsKeptBack};
 
-    ghost view = { λ disk. file_view (F.file disk.file.inner) (record {
-        sectors = disk.sectors;
-        clock = disk.clock;
-        failures = disk.failures;
-        start = disk.kept.start;
-        kept = kept_sectors disk.kept;
-        active = active_row disk.single_from (kept_sectors disk.kept);
-        base = unwrap_or disk.single_from (unwrap_or disk.failed_at disk.clock) - disk.kept.count;
-        split = unwrap_or disk.single_from (unwrap_or disk.failed_at disk.clock);
-        reached = unwrap_or disk.failed_at disk.clock;
-        fits = sectors_fit disk.sectors disk.fits;
-        in_range = disk.in_range;
-        in_order = disk.split_in_order;
-        le = disk.in_order;
-        whole = whole_kept disk.kept;
-        whole_active = whole_active disk.single_from (kept_sectors disk.kept) (whole_kept disk.kept);
-        sized = disk.sized;
-    }) };
+    ghost view = { file_disk_view };
 
     fn size(&self) -> u64 {
         self.sectors
