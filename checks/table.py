@@ -55,7 +55,7 @@ CHECKS = entries("checks", [
     ("statement", "docs/statement.md leads through all that its functions cite", "2 s"),
     ("refusals", "each refusal in docs/refusals.md is brought about by a case or a test", "at once"),
     ("claims", "no document repeats a claim that was found too strong", "1 s"),
-    ("words", "no name is defined in the specs of two crates", "at once"),
+    ("words", "no name is defined in the specs of two crates, and only laws have tactics", "at once"),
     ("edits", "each edit of must-fail/ and attacks/ can be applied", "1 s"),
     ("names", "each name between backticks in the documents about the code is in the code", "2 s"),
     ("diagrams", "what the documents draw, list and link to exists", "1 s"),
