@@ -47,6 +47,8 @@ fn check_part(rt: &impl Abort, holds: bool, condition: &str, case: u64, part: u6
 }
 
 #[cfg(test)]
+mod batch_size;
+#[cfg(test)]
 mod commit;
 #[cfg(test)]
 mod index;
