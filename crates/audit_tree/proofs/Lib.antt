@@ -4,6 +4,7 @@ pub mod ContinuedTrees
 pub mod CountOnes
 pub mod Depth
 pub mod Frontiers
+pub mod KnownNodes
 pub mod HashLengths
 pub mod OlderNode
 pub mod PathLemmas
