@@ -7,7 +7,7 @@ use Rattle.hex.specs.Hex.{decode_sized}
 use Rattle.audit_disk.specs.FileFacts.{FileFacts}
 use Rattle.audit_text.specs.declared.fault.LinesError.TheVariants.{Read, Memory}
 use Rattle.audit_cli_base.specs.declared.fault.CommandError.{CommandError}
-use Rattle.audit_cli_base.specs.declared.fault.CommandError.TheVariants.{BadArgument}
+use Rattle.audit_cli_base.specs.declared.fault.CommandError.TheVariants.{BadArgument, File}
 use Rattle.audit_cli_base.specs.declared.fault.CommandError.TheVariants.{Lines}
 
 -- the text without a line feed at its end
@@ -36,3 +36,8 @@ module _ {F : Type 0} (facts : F → FileFacts) (remaining : F → Option (List 
     pub file : F
     pub opened : (facts file).opened_to_read path
     pub none : IfSome (remaining file) (λ text. key_of_file text ≡ None)
+
+  -- Why no key was read at this path: the file couldn't be opened, or it was, and the key couldn't be read.
+  abbrev pub IsKeyFaultAt : (Failed : Type 0) → List ℕ → CommandError → Type 0
+  IsKeyFaultAt Failed path fault = ((fault ≡ File) × Failed)
+      ⊎ ((file : F) × (facts file).opened_to_read path × IsKeyFault (remaining file) fault)

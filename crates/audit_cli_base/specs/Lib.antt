@@ -6,4 +6,6 @@ pub mod KeyFile
 pub mod StartFile
 pub mod Blank
 pub mod OpenedStore
+pub mod Outputs
+pub mod Places
 pub mod Watched

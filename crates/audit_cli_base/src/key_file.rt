@@ -2,6 +2,7 @@
 ghost use Rattle.std.specs.Prelude.{◌≡◌, Some, None, Err, IfOk, IfErr, IfSome};
 ghost use Rattle.audit_text.specs.Reading.{TakesAtMost};
 ghost use Rattle.audit_cli_base.specs.KeyFile.{key_of_file, without_line_feed, HasNoKeyAt, IsKeyAt, IsKeyFault};
+ghost use Rattle.audit_cli_base.specs.KeyFile.{IsKeyFaultAt};
 
 use crate::fault::CommandError;
 use audit_chain::{KEY_LEN, Key};
@@ -50,6 +51,7 @@ where
     F::File: SystemFile,
     ensures key { IfOk result (IsKeyAt F.File.facts F.File.remaining path.now) }
     ensures bad { result ≡ Err CommandError.BadArgument → HasNoKeyAt F.File.facts F.File.remaining path.now }
+    ensures fault { IfErr result (IsKeyFaultAt F.File.facts F.File.remaining (F.failed rt.now) path.now) }
 {
     let mut file = rt.open_to_read(path)?;
     read_key(alloc, &mut file)

@@ -1,6 +1,5 @@
 //! What an output may replace.
-ghost use Rattle.std.specs.Prelude.{IfErr};
-ghost use Rattle.audit_cli_base.specs.Faults.{IsNoWordFault};
+ghost use Rattle.std.specs.Prelude.{◌≡◌, ◌⊎◌, IfErr};
 
 use crate::fault::CommandError;
 use audit_disk::SECTOR_SIZE;
@@ -12,7 +11,7 @@ use std::io::{self, ErrorKind, Read};
 /// header in one of its first two sectors, a device, a pipe, a socket or a folder is `FileExists`. What can't be read is
 /// `File`, since it may be a store. Nothing at the path is fine, and so is a link, which alone would be replaced.
 pub(crate) fn judge_replaced<R: Files>(rt: &R, path: &str) -> Result<(), CommandError>
-    ensures { IfErr result IsNoWordFault }
+    ensures { IfErr result (λ fault. (fault ≡ CommandError.File) ⊎ (fault ≡ CommandError.FileExists)) }
 {
     match rt.symlink_metadata(path) {
         Ok(found) if found.is_symlink() => return Ok(()),

@@ -1,5 +1,33 @@
+//! Looks at the place of a store.
+ghost use Rattle.std.specs.Prelude.{◌≡◌, ℕ, List, false};
+ghost use Rattle.audit_disk.specs.declared.file_identity.FileIdentity.{FileIdentity};
+
 use audit_disk::{FileIdentity, SECTOR_SIZE};
 use std::fs::{self, Files, Metadata, OpenFile};
+
+/// A system on which the places of stores are looked at. That a store isn't in its place is a fact of such a look
+/// alone: code that is generic over the system can have it from nothing else. Every system of files is one.
+pub trait StorePlaces: Files {
+    /// A look found at this path no store of this identity and number of sectors.
+    ghost lacks: { Self → List ℕ → FileIdentity → ℕ → Type 0 };
+
+    /// Whether a path names the file with this identity, and the file has the length of a store of `sectors` sectors.
+    fn has_store(&self, path: &str, identity: FileIdentity, sectors: u64) -> bool
+        ensures { result ≡ false → lacks self.now path.now identity sectors };
+}
+
+impl<R: Files> StorePlaces for R {
+    ghost lacks = { λ _ _ _ _. Unit {0} };
+
+    fn has_store(&self, path: &str, identity: FileIdentity, sectors: u64) -> bool {
+        match fs::metadata(self, path) {
+            Ok(found) => {
+                FileIdentity::of(&found) == identity && has_length(&found, identity, sectors)
+            }
+            Err(_) => false,
+        }
+    }
+}
 
 /// A look whether a path still names the file of the store that is open, and whether its length is still the store's.
 /// Without that, events would be acknowledged that nobody finds any more.
@@ -11,7 +39,9 @@ pub struct StoreWatch<'a, R> {
     pub(crate) sectors: u64,
 }
 
-impl<'a, R: Files> StoreWatch<'a, R> {
+impl<'a, R: StorePlaces> StoreWatch<'a, R> {
+    ghost use Rattle.audit_cli_base.specs.Places.{IsOutOfPlace};
+
     /// Looks for the store of this identity and number of sectors at this path.
     pub fn new(
         rt: &'a R,
@@ -45,21 +75,10 @@ impl<'a, R: Files> StoreWatch<'a, R> {
     }
 
     /// Whether the path still names that file, and its length is still the store's.
-    pub fn is_in_place(&self) -> bool {
-        is_store_at(self.rt, self.path, self.identity, self.sectors)
-    }
-}
-
-/// Whether a path names the file with this identity, and the file has the length of a store of `sectors` sectors.
-pub(crate) fn is_store_at<R: Files>(
-    rt: &R,
-    path: &str,
-    identity: FileIdentity,
-    sectors: u64,
-) -> bool {
-    match fs::metadata(rt, path) {
-        Ok(found) => FileIdentity::of(&found) == identity && has_length(&found, identity, sectors),
-        Err(_) => false,
+    pub fn is_in_place(&self) -> bool
+        ensures { result ≡ false → IsOutOfPlace R.lacks self.now }
+    {
+        self.rt.has_store(self.path, self.identity, self.sectors)
     }
 }
 

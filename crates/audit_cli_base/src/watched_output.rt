@@ -1,11 +1,10 @@
 //! Outputs of commands that keep a store open.
-ghost use Rattle.std.specs.Prelude.{◌≡◌, true, false, IsErr};
+ghost use Rattle.std.specs.Prelude.{◌≡◌, ◌⊎◌, true, false, IsErr};
 ghost use Rattle.std.specs.Io.{WritesAtMost};
 ghost use Rattle.std.specs.Io.KnownBytes.{Keeps, WriteAppends};
 
-use crate::store_watch::{StoreWatch, is_store_at};
+use crate::store_watch::{StorePlaces, StoreWatch};
 use audit_disk::FileIdentity;
-use std::fs::Files;
 use std::io::{self, ErrorKind, Write};
 use std::time::{Clock, Duration, Instant};
 
@@ -24,7 +23,7 @@ pub struct WatchedOutput<'a, 'b, R, W> {
     is_replaced: bool,
 }
 
-impl<'a, 'b, R: Files + Clock, W: Write> WatchedOutput<'a, 'b, R, W> {
+impl<'a, 'b, R: StorePlaces + Clock, W: Write> WatchedOutput<'a, 'b, R, W> {
     ghost use Rattle.audit_cli_base.specs.Watched.{after_reference, watched_bytes};
 
     /// An output of a command whose store is watched.
@@ -52,7 +51,10 @@ impl<'a, 'b, R: Files + Clock, W: Write> WatchedOutput<'a, 'b, R, W> {
 
     /// Whether the store isn't in its place, now or when it was last looked.
     pub fn is_replaced(&mut self) -> bool
-        ensures { watched_bytes W.contents self.new ≡ watched_bytes W.contents self.old }
+        ensures bytes { watched_bytes W.contents self.new ≡ watched_bytes W.contents self.old }
+        // Only a look finds that.
+        ensures found { result ≡ true → (self.old.is_replaced ≡ true)
+            ⊎ R.lacks self.new.rt.now self.new.path.now self.new.identity self.new.sectors }
     {
         self.is_replaced || !self.look()
     }
@@ -61,8 +63,10 @@ impl<'a, 'b, R: Files + Clock, W: Write> WatchedOutput<'a, 'b, R, W> {
         ensures output { self.new.output ≡ self.old.output }
         ensures replaced { result ≡ false → self.new.is_replaced ≡ true }
         ensures stays { self.old.is_replaced ≡ true → self.new.is_replaced ≡ true }
+        ensures gone { result ≡ false
+            → R.lacks self.new.rt.now self.new.path.now self.new.identity self.new.sectors }
     {
-        let is_in_place = is_store_at(self.rt, self.path, self.identity, self.sectors);
+        let is_in_place = self.rt.has_store(self.path, self.identity, self.sectors);
         self.is_replaced |= !is_in_place;
         is_in_place
     }
@@ -91,7 +95,7 @@ impl<'a, 'b, R: Files + Clock, W: Write> WatchedOutput<'a, 'b, R, W> {
 }
 
 // Once the store isn't in its place, no write reaches the output any more.
-impl<R: Files + Clock, W: Write> Write for WatchedOutput<'_, '_, R, W> {
+impl<R: StorePlaces + Clock, W: Write> Write for WatchedOutput<'_, '_, R, W> {
     ghost use Rattle.audit_cli_base.specs.Watched.{watched_bytes};
 
     ghost contents = { watched_bytes W.contents };
