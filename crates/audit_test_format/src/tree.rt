@@ -3,6 +3,7 @@ use sha2::{Digest, Sha256};
 use std::alloc::Global;
 use std::process::Abort;
 
+mod growing;
 mod plain;
 
 // A digest in hex digits.
