@@ -40,14 +40,17 @@ impl<R: Read> LineInput for BufReader<R> {
     }
 }
 
-/// An output of which contracts can say that a call of it failed. Code that is generic over it can have that fact from
-/// such a call alone.
+/// An output of which contracts can say that a call of it failed, or was a flush that succeeded. Code that is generic over
+/// it can have such a fact from that call alone.
 pub trait LineOutput {
     /// The bytes that were written, where they are known.
     ghost contents: { Self → Option (List ℕ) };
 
     /// The last call failed.
     ghost failed: { Self → Type 0 };
+
+    /// The last call was a flush, and it succeeded.
+    ghost was_flushed: { Self → Type 0 };
 
     /// Writes a whole text, and doesn't flush. The only error is `Write`. After it a prefix of the text was written.
     fn write_text(&mut self, text: &[u8]) -> Result<(), LinesError>
@@ -59,6 +62,7 @@ pub trait LineOutput {
     /// Flushes. The only error is `Write`.
     fn flush_text(&mut self) -> Result<(), LinesError>
         ensures kept { Keeps (contents self.old) (contents self.new) }
+        ensures flushed { OnOk result (was_flushed self.new) }
         ensures fault { IfErr result (λ fault. fault ≡ LinesError.Write) }
         ensures failed { OnErr result (failed self.new) };
 }

@@ -58,6 +58,8 @@ where
         → (lines : List (List ℕ)) × (length lines + 1 ≡ number) × LoopTransition C.model core.old core.new
         (W.contents writer.old) (W.contents writer.new) (AreLinePasses lines)
         × IfSome (R.remaining reader.old) (SpellsUpToBad lines) }
+    // The writer was flushed after the last reply.
+    ensures flushed { OnOk result (W.was_flushed writer.new) }
     // The only errors of lines are `Read`, `Write` and `Memory`.
     ensures fault { IfErr result IsLoopError }
     // `Connection` needs a call that failed at an end of the link, bytes that were read there and weren't sent, or
@@ -178,6 +180,8 @@ where
     ensures refused { (error : C.Error) → result ≡ Err (fault.Core error) → C.refuses core.old core.new error }
     ensures done { OnOk result (LoopTransition C.model core.old core.new (W.contents writer.old) (W.contents writer.new)
         (λ steps. steps ≡ a_flush ∷ [])) }
+    // Each reply is flushed.
+    ensures flushed { OnOk result (W.was_flushed writer.new) }
     ensures fault { IfErr result IsReplyError }
     ensures lost { result ≡ Err fault.Connection
         → LosesSome B.unwritten A.unread A.gave link.new.server link.new.client

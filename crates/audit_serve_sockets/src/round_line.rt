@@ -17,6 +17,7 @@ pub fn write_round<W: LineOutput>(
     writer: &mut W,
 ) -> Result<(), LinesError>
     ensures written { OnOk result (Appends (W.contents writer.old) (W.contents writer.new) (round_line round turns)) }
+    ensures flushed { OnOk result (W.was_flushed writer.new) }
     ensures part { OnErr result (WritesInPart (W.contents writer.old) (W.contents writer.new)
         (round_line round turns)) }
     ensures fault { IfErr result (λ cause. ((cause ≡ fault.Write) × W.failed writer.new)
