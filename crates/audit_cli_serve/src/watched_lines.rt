@@ -57,6 +57,8 @@ impl<F: Files, W: TriedWrite> LineOutput for WatchedLines<'_, '_, F, W> {
 
     ghost failed = { LineFailed W.unwritten };
 
+    ghost was_flushed = { λ watched. W.was_flushed watched.output.now };
+
     fn write_text(&mut self, text: &[u8]) -> Result<(), LinesError> {
         if !self.look() {
             return Err(LinesError::Write);
