@@ -51,6 +51,8 @@ mod batch_size;
 #[cfg(test)]
 mod commit;
 #[cfg(test)]
+mod fours;
+#[cfg(test)]
 mod index;
 #[cfg(test)]
 mod layout;
