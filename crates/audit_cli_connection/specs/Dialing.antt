@@ -35,9 +35,18 @@ IsUnconnected facts path seconds (Server TimedOut) =
     facts.unconnected path WouldBlock × HavePassed facts.read seconds
 IsUnconnected facts path seconds _ = ⊥
 
+-- Why the file of a socket isn't seen: a call of the system failed, as `Failed` says.
+abbrev pub IsUnseen : (Failed : Type 0) → RemoteError → Type 0
+IsUnseen Failed (NoConnection kind) = Failed
+IsUnseen Failed _ = ⊥
+
 -- a stream to this path was connected, and waits
 abbrev pub IsConnected : DialFacts → List ℕ → ℤ → Type 0
 IsConnected facts path stream = facts.connected path stream × facts.waits stream
 
 abbrev pub descriptor_of_line : {R : Type 0} → Line R → ℤ
 descriptor_of_line line = unix_stream_raw_fd line.stream
+
+-- some stream to this path was
+abbrev pub HasConnection : DialFacts → List ℕ → Type 0
+HasConnection facts path = (stream : ℤ) × IsConnected facts path stream

@@ -39,14 +39,6 @@ pub record ServersModel (F : Type 0) : Type 1 where
   pub more_called : (old mid new : F) (calls later : List ServerCall) → DidCalls old mid calls
       → DidCalls mid new later → DidCalls old new (calls ++ later)
 
--- a system of whose calls nothing is known
-abbrev pub unknown_servers : {F : Type 0} → ServersModel F
-unknown_servers = record {
-  DidCalls = λ old new calls. Unit {0};
-  nothing_called = λ servers. tt;
-  more_called = λ old mid new calls later first second. tt;
-}
-
 -- What is known of the files that words name. Each fact is established by a call alone: code that is generic over the
 -- system can have it from nothing else.
 pub record NamedFiles : Type 1 where

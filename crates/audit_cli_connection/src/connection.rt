@@ -4,14 +4,13 @@ ghost use Rattle.std.specs.Net.Unix.{unix_stream_raw_fd};
 ghost use Rattle.std.specs.Duration.{as_nanos};
 ghost use Rattle.std.specs.Time.{instant_nanos};
 ghost use Rattle.std.specs.declared.io.ErrorKind.{ErrorKind};
-ghost use Rattle.audit_cli_connection.specs.Dialing.{IsConnected, IsUnconnected, descriptor_of_line};
+ghost use Rattle.audit_cli_connection.specs.Dialing.{IsConnected, IsUnconnected, IsUnseen, descriptor_of_line};
 
 use crate::dialing::Dialing;
 use crate::fault::RemoteError;
 use crate::line::{Line, Pace};
-use audit_disk::FileIdentity;
+use audit_disk::{FileIdentity, SystemFile, SystemFiles};
 use audit_wire_ask::ClientError;
-use std::fs::{self, Files};
 use std::io::ErrorKind;
 use std::os::unix::net::UnixStream;
 use std::time::{Clock, Duration, Instant};
@@ -97,17 +96,21 @@ fn moment_of<F: Dialing>(rt: &F) -> Result<Instant, RemoteError>
     }
 }
 
-// Whether these seconds have passed since a moment.
-fn is_over(begun: Instant, now: Instant, seconds: u64) -> bool
+/// Whether these seconds have passed since a moment.
+pub fn is_over(begun: Instant, now: Instant, seconds: u64) -> bool
     ensures { result ≡ true → seconds * 1_000_000_000 ≤ instant_nanos now - instant_nanos begun }
 {
     let limit = Duration::from_secs(seconds);
     limit.saturating_sub(now.duration_since(begun)).is_zero()
 }
 
-/// The identity of the socket's file, so that no output replaces it.
-pub fn socket_identity<F: Files>(rt: &F, socket: &str) -> Result<FileIdentity, RemoteError> {
-    match fs::metadata(rt, socket) {
+/// The identity of the socket's file, so that no output replaces it. It fails only if the call does that looks at it.
+pub fn socket_identity<F: SystemFiles>(rt: &F, socket: &str) -> Result<FileIdentity, RemoteError>
+where
+    F::File: SystemFile,
+    ensures failed { IfErr result (IsUnseen (F.failed rt.now)) }
+{
+    match rt.look(socket) {
         Ok(found) => Ok(FileIdentity::of(&found)),
         Err(error) => Err(RemoteError::NoConnection(error.kind())),
     }

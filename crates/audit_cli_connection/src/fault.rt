@@ -1,4 +1,4 @@
-ghost use Rattle.std.specs.Prelude.{◌≡◌, option_map, IfSome, IfErr, OnOk, OnErr, Ok};
+ghost use Rattle.std.specs.Prelude.{◌≡◌, option_map, IfSome, IfErr, OnOk, OnErr, Ok, Err};
 ghost use Rattle.std.specs.Io.KnownBytes.{Appends};
 ghost use Rattle.audit_text.specs.Writing.{WritesInPart};
 ghost use Rattle.audit_cli_connection.specs.Faults.{no_memory, remote_status, status_of_server, of_sending};
@@ -298,6 +298,8 @@ pub fn without_words<T>(done: Result<T, RemoteError>) -> Result<T, RemoteError>
     ensures fault { IfErr result IsNoBadArgument }
     ensures same { IfErr done IsNoBadArgument → result ≡ done }
     ensures done { (given : T) → result ≡ Ok given → done ≡ Ok given }
+    ensures bad { done ≡ Err (RemoteError.Command CommandError.BadArgument)
+        → result ≡ Err (RemoteError.Command CommandError.File) }
 {
     match done {
         Err(RemoteError::Command(CommandError::BadArgument)) => {

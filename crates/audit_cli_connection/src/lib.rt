@@ -16,7 +16,7 @@ mod read_task;
 mod servers;
 mod task;
 
-pub use connection::{connect, socket_identity};
+pub use connection::{connect, is_over, socket_identity};
 pub use contradiction::Contradiction;
 pub use dates::{date_of_now, push_date};
 pub use dialing::Dialing;
