@@ -1,15 +1,18 @@
 //! Opening the file of a witness for one look at a time.
-ghost use Rattle.std.specs.Prelude.{◌≡◌, true, Ok, IfOk};
+ghost use Rattle.std.specs.Prelude.{◌≡◌, true, false, Ok, IfOk, IfErr, IfSome};
+ghost use Rattle.std.specs.Time.{instant_nanos};
+ghost use Rattle.audit_cli_base.specs.declared.fault.CommandError.TheVariants.{File};
+ghost use Rattle.audit_cli_connection.specs.Dialing.{HavePassed};
+ghost use Rattle.audit_cli_connection.specs.declared.fault.RemoteError.TheVariants.{Command};
+ghost use Rattle.audit_cli_witness.specs.Locking.{IsUnlocked, IsUnlockedNow};
 
 use audit_cli_base::CommandError;
-use audit_cli_connection::RemoteError;
-use audit_cli_host::retry_time;
-use audit_disk::{FileIdentity, SystemFile};
+use audit_cli_connection::{Dialing, RemoteError, is_over};
+use audit_disk::{SystemFile, SystemFiles};
 use std::fs::{self, Files, Metadata, OpenFile, OpenOptions, TryLockError};
 use std::io::{self, ErrorKind};
 use std::path::Path;
-use std::thread;
-use std::time::{Clock, Duration, Instant};
+use std::time::Instant;
 
 /// An open file that is locked until it is dropped, and is the one at its path.
 #[derive(Drop)]
@@ -21,30 +24,67 @@ pub struct Locked<F> {
 }
 
 /// Opens the file of a witness and locks it. If there is none, an empty one is made. While another look has it locked,
-/// it is tried again until `limit` has passed; then the error is `StateInUse`. Anything but a regular file is a file
-/// fault.
-pub fn lock_state<R: Files + Clock>(
+/// it is tried again until the seconds have passed; then the error is `StateInUse`. Anything but a regular file is a
+/// file fault.
+pub fn lock_state<R: SystemFiles + Dialing>(
     rt: &R,
     path: &str,
-    limit: Duration,
+    seconds: u64,
 ) -> Result<Locked<R::File>, RemoteError>
 where
     R::File: SystemFile,
     // It was locked by a call that nothing else can be taken for.
-    ensures { IfOk result (λ locked. (R.File.facts locked.file).locked) }
+    ensures locked { IfOk result (λ locked. (R.File.facts locked.file).locked) }
+    // It is in use only if a call that locks it failed, and the seconds are over.
+    ensures failed { IfErr result (IsUnlocked R.File.facts (R.dials rt.now).read seconds) }
 {
-    let begun = Instant::now(rt)?;
+    let begun = rt.moment()?;
     for _ in 0..u64::MAX {
-        let opened = open_state(rt, path)?;
-        if takes_lock(&opened.file)? && is_at(rt, &opened.file, path)? {
-            return Ok(opened);
+        match lock_once(rt, path) {
+            Ok(Some(locked)) => return Ok(locked),
+            Ok(None) => {}
+            Err(fault) => {
+                if is_last(rt, fault, begun, seconds)? {
+                    return Err(fault);
+                }
+            }
         }
-        if begun.elapsed(rt)? >= limit {
-            break;
-        }
-        thread::sleep(rt, retry_time());
+        rt.wait_for_retry();
     }
-    Err(RemoteError::StateInUse)
+    Err(RemoteError::Command(CommandError::File))
+}
+
+// Opens the file and locks it without waiting; none if it was removed before it was locked. The error is `StateInUse`
+// if another open has it locked, or another file is at the path.
+fn lock_once<R: SystemFiles>(rt: &R, path: &str) -> Result<Option<Locked<R::File>>, RemoteError>
+where
+    R::File: SystemFile,
+    ensures locked { IfOk result (λ made. IfSome made (λ locked. (R.File.facts locked.file).locked)) }
+    ensures failed { IfErr result (IsUnlockedNow R.File.facts) }
+{
+    let opened = open_state(rt, path)?;
+    if !takes_lock(&opened.file)? {
+        return Err(RemoteError::StateInUse);
+    }
+    let Some(found) = metadata_if_any(rt, path)? else {
+        return Ok(None);
+    };
+    match opened.file.is_same(&found) {
+        Ok(()) => Ok(Some(opened)),
+        Err(_) => Err(RemoteError::StateInUse),
+    }
+}
+
+// Whether it isn't tried again after this fault. While the file is in use it is, until the seconds have passed.
+fn is_last<R: Dialing>(rt: &R, fault: RemoteError, begun: Instant, seconds: u64) -> io::Result<bool>
+    requires { (R.dials rt.now).read (instant_nanos begun) }
+    ensures { result ≡ Ok true → fault ≡ RemoteError.StateInUse → HavePassed (R.dials rt.now).read seconds }
+{
+    if fault != RemoteError::StateInUse {
+        return Ok(true);
+    }
+    let now = rt.moment()?;
+    Ok(is_over(begun, now, seconds))
 }
 
 /// Removes a file that was made for a look by which nothing was kept. The caller has it locked.
@@ -58,7 +98,9 @@ pub fn remove_made<R: Files>(rt: &R, path: &str) {
 }
 
 // A pipe or a device isn't opened: that might wait, or do something.
-fn open_state<R: Files>(rt: &R, path: &str) -> Result<Locked<R::File>, RemoteError> {
+fn open_state<R: Files>(rt: &R, path: &str) -> Result<Locked<R::File>, RemoteError>
+    ensures { IfErr result (λ fault. fault ≡ Command File) }
+{
     let found = metadata_if_any(rt, path)?;
     if let Some(found) = &found
         && !found.is_file()
@@ -87,21 +129,14 @@ pub fn metadata_if_any<R: Files>(rt: &R, path: &str) -> io::Result<Option<Metada
 }
 
 fn takes_lock<F: SystemFile>(file: &F) -> io::Result<bool>
-    ensures { result ≡ Ok true → (F.facts file.now).locked }
+    ensures locked { result ≡ Ok true → (F.facts file.now).locked }
+    ensures held { result ≡ Ok false → (F.facts file.now).failed }
 {
     match file.try_lock() {
         Ok(()) => Ok(true),
         Err(TryLockError::WouldBlock) => Ok(false),
         Err(TryLockError::Error(error)) => Err(error),
     }
-}
-
-// Whether a file is the one at a path: another may have replaced or removed it before it was locked.
-fn is_at<R: Files>(rt: &R, file: &R::File, path: &str) -> io::Result<bool> {
-    let Some(found) = metadata_if_any(rt, path)? else {
-        return Ok(false);
-    };
-    Ok(FileIdentity::of(&found) == FileIdentity::of(&file.metadata()?))
 }
 
 /// Syncs the name of a file, if its folder can be opened.

@@ -1,5 +1,5 @@
 //! A witness of a log, which keeps what it sees in a file.
-ghost use Rattle.std.specs.Prelude.{◌≡◌, ◌++◌, List, [], ◌∷◌, Result, false, codes, Some};
+ghost use Rattle.std.specs.Prelude.{◌≡◌, ◌++◌, List, [], ◌∷◌, Result, Err, false, codes, Some};
 ghost use Rattle.std.specs.Prelude.{IfErr, OnOk, OnErr};
 ghost use Rattle.std.specs.Io.KnownBytes.{Appends};
 ghost use Rattle.audit_wire_ask.specs.declared.watching.Sight.{Sight};
@@ -8,6 +8,8 @@ ghost use Rattle.audit_cli_connection.specs.Faults.{is_passing_fault, IsNoBadArg
 ghost use Rattle.audit_cli_connection.specs.ServerCalls.{a_look, a_rest};
 ghost use Rattle.audit_cli_witness.specs.Looking.{sight_line, change_line, FollowsLook, PrintsLook, FailsToPrint};
 ghost use Rattle.audit_cli_witness.specs.Looking.{SaysPassing, SaysReturn};
+ghost use Rattle.audit_cli_connection.specs.declared.fault.RemoteError.TheVariants.{StateInUse};
+ghost use Rattle.audit_cli_witness.specs.Locking.{IsInUse};
 ghost use Rattle.audit_cli_witness.specs.Looks.{LooksOnce, LooksToTheEnd};
 ghost use Rattle.audit_cli_witness.specs.State.{commitment_word};
 
@@ -21,11 +23,10 @@ use crate::state_text::{StateAt, StateText};
 use crate::witnessed::witnessed_at;
 use audit_cli_base::CommandError;
 use audit_cli_connection::{
-    LineEnd, Pace, Post, RemoteError, Servers, connect, report_passing, report_return,
+    Dialing, LineEnd, Pace, Post, RemoteError, Servers, connect, report_passing, report_return,
     socket_identity,
 };
-use audit_cli_host::Dial;
-use audit_disk::SystemFile;
+use audit_disk::{SystemFile, SystemFiles};
 use audit_proof::Commitment;
 use audit_text::read_input;
 use audit_wire_ask::{FallibleWrite, Kept, Sight, watch_and_keep};
@@ -33,7 +34,7 @@ use httpdate::HttpDate;
 use std::alloc::Global;
 use std::fs::{self, Files};
 use std::io::BufReader;
-use std::time::{Clock, Duration};
+use std::time::Clock;
 
 /// Looks once, and prints what was seen.
 pub fn watch_once<F: Servers, W: FallibleWrite>(
@@ -202,16 +203,18 @@ fn print_change<W: FallibleWrite>(
 
 /// Looks by the file, which is locked meanwhile. One that was made for a look that kept nothing is removed. What
 /// contradicts it is kept beside it.
-pub fn look_by_file<F: Files + Dial + Clock>(
+pub fn look_by_file<F: SystemFiles + Dialing + Clock>(
     rt: &F,
     alloc: Global,
     post: Post<'_>,
 ) -> Result<Sight, RemoteError>
 where
     F::File: SystemFile,
+    // The file is in use only if a call that locks it failed, and the seconds are over.
+    ensures in_use { result ≡ Err StateInUse → IsInUse F.File.facts (F.dials rt.now).read post.entry.seconds }
 {
     socket_identity(rt, post.socket)?;
-    let Locked { file, is_made } = lock_state(rt, post.state, Duration::from_secs(post.seconds))?;
+    let Locked { file, is_made } = lock_state(rt, post.state, post.seconds)?;
     let text = StateAt {
         rt,
         path: post.state,
@@ -227,12 +230,14 @@ where
             found.is_kept = keep_alarm(rt, alloc, post.state, &found).is_ok();
             Err(RemoteError::Contradicted(found))
         }
+        // It is locked by now.
+        Err(RemoteError::StateInUse) => Err(RemoteError::Command(CommandError::File)),
         other => other,
     }
 }
 
 // Begins a file without a line by the log before, if one is named, and looks.
-fn look_on<F: Files + Dial + Clock, T: StateText>(
+fn look_on<F: Files + Dialing + Clock, T: StateText>(
     rt: &F,
     alloc: Global,
     post: Post<'_>,
@@ -251,7 +256,7 @@ fn look_on<F: Files + Dial + Clock, T: StateText>(
     look_and_keep(rt, alloc, post, kept)
 }
 
-fn look_and_keep<F: Dial + Clock, K: Kept<Error = RemoteError>>(
+fn look_and_keep<F: Dialing + Clock, K: Kept<Error = RemoteError>>(
     rt: &F,
     alloc: Global,
     post: Post<'_>,
