@@ -1,3 +1,4 @@
 pub mod AskedQuestions
 mod Readings
 mod NoBadArguments
+mod Connected

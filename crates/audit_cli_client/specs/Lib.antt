@@ -1,4 +1,5 @@
 pub mod Sent
+pub mod SocketCalls
 pub mod StoreStateLine
 pub mod Arguments
 pub mod Asked

@@ -47,3 +47,9 @@ abbrev pub EndsSending : (ℕ → Placing → SendEnd → Type 0) → (RemoteErr
 EndsSending Sent Broke status = (count : ℕ) × (next : Placing) × (total : SendEnd) × Sent count next total
     × (((0 < count) × (status ≡ status_of_sent total))
     ⊎ ((fault : RemoteError) × Broke fault × (status ≡ remote_status fault) × (total.answered < total.sent)))
+
+-- What is known of the connections after a call, that there was one, as `Reached` says, or none, as `Broke` says, is a
+-- fact of the system, and was so before.
+abbrev pub KeepsConnections : {L : Type 0} → (L → Type 0) → (L → RemoteError → Type 0) → L → L → Type 0
+KeepsConnections Reached Broke old new =
+    (Reached new → Reached old) × ((fault : RemoteError) → Broke new fault → Broke old fault)

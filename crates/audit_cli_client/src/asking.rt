@@ -12,6 +12,7 @@ ghost use Rattle.audit_cli_base.specs.Arguments.{selects_output};
 ghost use Rattle.audit_cli_connection.specs.declared.fault.RemoteError.{RemoteError};
 ghost use Rattle.audit_cli_connection.specs.Faults.{of_asking};
 ghost use Rattle.audit_cli_client.specs.Asked.{AsksOnly, PrintsAnswer, IsGivenEvidence, FailsEvidence};
+ghost use Rattle.audit_cli_client.specs.SocketCalls.{AsksSocket};
 ghost use Rattle.audit_cli_client.specs.StoreStateLine.{store_state_line};
 
 use crate::out::OutFile;
@@ -21,10 +22,10 @@ use audit_cli_base::{
     CommandError, ProofRequest, is_standard_output, write_exported, write_number,
 };
 use audit_cli_connection::{
-    Evidence, LineEnd, Pace, Question, RemoteError, connect, socket_identity,
+    Dialing, Evidence, LineEnd, Pace, Question, RemoteError, connect, socket_identity,
 };
 use audit_cli_host::Dial;
-use audit_disk::FileIdentity;
+use audit_disk::{FileIdentity, SystemFile, SystemFiles};
 use audit_proof::Commitment;
 use audit_text::{put_line, write_whole};
 use audit_wire::Refusal;
@@ -39,14 +40,19 @@ use std::time::Clock;
 
 /// Asks a server, writes the answer to its file, and prints its line. If the server has no such entry or count, the
 /// count that it has is noted.
-pub fn ask_socket<F: SeenFiles + Dial + Clock, W: Write>(
+pub fn ask_socket<F: SystemFiles + SeenFiles + Dialing + Dial + Clock, W: Write>(
     rt: &F,
     alloc: Global,
     socket: &str,
     question: Question<'_>,
     seconds: u64,
     output: &mut W,
-) -> Result<(), RemoteError> {
+) -> Result<(), RemoteError>
+where
+    F::File: SystemFile,
+    // It ends over a connection to the socket, or because there is none.
+    ensures asked { AsksSocket (F.failed rt.now) (F.dials rt.now) socket.now seconds result }
+{
     let identity = socket_identity(rt, socket)?;
     let line = connect(rt, socket, seconds, Pace::Question)?;
     let mut to = LineEnd::of(&line);

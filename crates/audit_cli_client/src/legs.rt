@@ -4,7 +4,7 @@ ghost use Rattle.audit_cli_connection.specs.Faults.{IsNoBadArgument};
 ghost use Rattle.audit_cli_connection.specs.declared.fault.RemoteError.{RemoteError};
 ghost use Rattle.audit_wire_ask.specs.declared.placing.Placing.{Placing};
 ghost use Rattle.audit_wire_ask.specs.declared.sending.SendEnd.{SendEnd};
-ghost use Rattle.audit_cli_client.specs.Sent.{placing_after, with_leg};
+ghost use Rattle.audit_cli_client.specs.Sent.{placing_after, with_leg, KeepsConnections};
 
 use audit_cli_connection::RemoteError;
 use audit_wire_ask::{Places, Placing, SendEnd};
@@ -26,7 +26,10 @@ pub(crate) trait Legs {
     /// and over another one the lines have these places.
     ghost sent: { Self → ℕ → Placing → SendEnd → Type 0 };
 
-    /// The last call failed with this fault.
+    /// There was a connection.
+    ghost reached: { Self → Type 0 };
+
+    /// A call failed with this fault.
     ghost broke: { Self → RemoteError → Type 0 };
 
     /// Sends over another connection the lines after the first `before`, at these places. No argument is called bad.
@@ -37,10 +40,12 @@ pub(crate) trait Legs {
         ensures same { OnErr result ((count : ℕ) (places : Placing) (total : SendEnd)
             → sent self.old count places total → sent self.new count places total) }
         ensures broke { IfErr result (broke self.new) }
+        ensures kept { KeepsConnections reached broke self.old self.new }
         ensures bad { IfErr result IsNoBadArgument };
 
     /// Goes back in the input before the last lines that were taken, as [`audit_wire_ask::KeptInput::go_back`] does.
     fn go_back(&mut self, unread: usize, lines: u64) -> bool
-        ensures { (count : ℕ) (places : Placing) (total : SendEnd) → sent self.old count places total
-            → sent self.new count places total };
+        ensures same { (count : ℕ) (places : Placing) (total : SendEnd) → sent self.old count places total
+            → sent self.new count places total }
+        ensures kept { KeepsConnections reached broke self.old self.new };
 }

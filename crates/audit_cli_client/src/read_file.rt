@@ -3,12 +3,14 @@ ghost use Rattle.std.specs.Prelude.{◌≡◌, ◌⊎◌, ℕ, List, Option, Som
 ghost use Rattle.audit_proof.specs.declared.commitment.Commitment.{Commitment};
 ghost use Rattle.audit_verify.specs.State.{StateData};
 ghost use Rattle.audit_verify.specs.Bookmark.{AreSoundParts, bookmark_text};
+ghost use Rattle.audit_cli_base.specs.declared.fault.CommandError.{CommandError};
 ghost use Rattle.audit_cli_base.specs.declared.fault.CommandError.TheVariants.{BadArgument};
-ghost use Rattle.audit_cli_connection.specs.declared.fault.RemoteError.TheVariants.{Command};
+ghost use Rattle.audit_cli_connection.specs.declared.fault.RemoteError.TheVariants.{Command, ReaderInUse};
 ghost use Rattle.audit_cli_connection.specs.Faults.{IsNoBadArgument};
 ghost use Rattle.audit_cli_connection.specs.ServerCalls.{AreNoKinds, HasBeginning, HasNoBeginning, IsUnfitReading};
 ghost use Rattle.audit_cli_client.specs.NamedFiles.{files_named, HasBookmarkAt, HasNoBookmarkAt, IsNoBookmark};
 ghost use Rattle.audit_cli_client.specs.NamedFiles.{IsReadFailure};
+ghost use Rattle.audit_cli_witness.specs.Locking.{IsInUse, IsReaderUnlocked};
 
 use crate::left_files::remove_left;
 use crate::printed_file::PrintedFile;
@@ -16,9 +18,9 @@ use crate::read_error::{fault_of_reading, fault_of_unseen};
 use crate::seen_files::SeenFiles;
 use audit_cli_base::{CommandError, OutputFile, key_at};
 use audit_cli_connection::{
-    LineEnd, Pace, ReadTask, RemoteError, connect, no_memory, socket_identity, without_words,
+    Dialing, LineEnd, Pace, ReadTask, RemoteError, connect, no_memory, socket_identity,
+    without_words,
 };
-use audit_cli_host::Dial;
 use audit_cli_offline::{Printing, VerifiedEnd, kinds_in_word, write_end_message, write_last_line};
 use audit_cli_read::{BookmarkFile, EventOutlet};
 use audit_cli_witness::{
@@ -33,12 +35,16 @@ use audit_wire_read::{Outlet, newest_under, read_on};
 use std::alloc::Global;
 use std::fs::{Files, Metadata};
 use std::io::{BufReader, Read, Write};
-use std::time::{Clock, Duration};
+use std::time::Clock;
 
 /// Reads a log on from the bookmark in a file, prints its events, and keeps the bookmark after them. Meanwhile the file
 /// with `.lock` after its name is locked, so that one program at a time reads by it. What contradicts the bookmark is
 /// kept beside it.
-pub(crate) fn read_by_file<F: SystemFiles + SeenFiles + Dial + Clock, W: FallibleWrite, M: Write>(
+pub(crate) fn read_by_file<
+    F: SystemFiles + SeenFiles + Dialing + Clock,
+    W: FallibleWrite,
+    M: Write,
+>(
     rt: &F,
     alloc: Global,
     task: ReadTask<'_>,
@@ -51,15 +57,39 @@ where
         task.entry) }
     ensures bad { result ≡ Err (Command BadArgument)
         → IsUnfitReading (files_named F.File.facts F.File.remaining (F.is_no_file rt.now)) task.entry }
+    // The file is in use only if a call that locks it failed, and the seconds are over.
+    ensures in_use { result ≡ Err ReaderInUse → IsInUse F.File.facts (F.dials rt.now).read task.entry.seconds }
 {
     let printing = printing_asked(alloc, task)?;
     let socket = without_words(socket_identity(rt, task.socket))?;
     let name = format!(in alloc; "{}.lock", task.state)?;
     let locked = without_words(lock_reader(rt, &name, task.seconds))?;
-    remove_left(rt, alloc, task.state)?;
-    let done = read_alone(rt, alloc, socket, task, &printing, output);
-    remove_made(rt, &name);
+    let done = read_locked(rt, alloc, socket, task, &name, &printing, output, messages);
     drop(locked);
+    unless_in_use(done)
+}
+
+// The same while the lock is held. The file for it is removed.
+fn read_locked<F: SystemFiles + SeenFiles + Dialing + Clock, W: FallibleWrite, M: Write>(
+    rt: &F,
+    alloc: Global,
+    socket: FileIdentity,
+    task: ReadTask<'_>,
+    lock: &str,
+    printing: &Printing,
+    output: &mut W,
+    messages: &mut M,
+) -> Result<(), RemoteError>
+where
+    F::File: SystemFile,
+    ensures begun { OnOk result (HasBeginning (files_named F.File.facts F.File.remaining (F.is_no_file rt.now))
+        task.entry) }
+    ensures bad { result ≡ Err (Command BadArgument)
+        → HasNoBeginning (files_named F.File.facts F.File.remaining (F.is_no_file rt.now)) task.entry }
+{
+    remove_left(rt, alloc, task.state)?;
+    let done = read_alone(rt, alloc, socket, task, printing, output);
+    remove_made(rt, lock);
     match done {
         Ok(read) => without_words(print_end(alloc, task, read, output, messages)),
         Err(RemoteError::NotLed(error, Some(mut found))) => {
@@ -67,6 +97,17 @@ where
             Err(RemoteError::NotLed(error, Some(found)))
         }
         Err(fault) => Err(fault),
+    }
+}
+
+// The result of what is done while the lock is held: no fault of it means that the file is in use.
+fn unless_in_use(done: Result<(), RemoteError>) -> Result<(), RemoteError>
+    ensures free { result ≡ Err ReaderInUse → ⊥ }
+    ensures same { ((done ≡ Err ReaderInUse) × (result ≡ Err (Command CommandError.File))) ⊎ (result ≡ done) }
+{
+    match done {
+        Err(RemoteError::ReaderInUse) => Err(RemoteError::Command(CommandError::File)),
+        done => done,
     }
 }
 
@@ -81,7 +122,8 @@ struct Reading {
 
 // What is printed, by the words for it.
 fn printing_asked(alloc: Global, task: ReadTask<'_>) -> Result<Printing, RemoteError>
-    ensures { result ≡ Err (Command BadArgument) → AreNoKinds task.entry.kinds }
+    ensures bad { result ≡ Err (Command BadArgument) → AreNoKinds task.entry.kinds }
+    ensures fault { IfErr result (λ fault. (cause : CommandError) × (fault ≡ Command cause)) }
 {
     let kinds = match task.kinds {
         Some(word) => match kinds_in_word(alloc, word.as_bytes())? {
@@ -93,21 +135,22 @@ fn printing_asked(alloc: Global, task: ReadTask<'_>) -> Result<Printing, RemoteE
     Ok(Printing::new(task.form, kinds, 0))
 }
 
-fn lock_reader<F: Files + Clock>(
+fn lock_reader<F: SystemFiles + Dialing>(
     rt: &F,
     name: &str,
     seconds: u64,
 ) -> Result<Locked<F::File>, RemoteError>
 where
     F::File: SystemFile,
+    ensures failed { IfErr result (IsReaderUnlocked F.File.facts (F.dials rt.now).read seconds) }
 {
-    match lock_state(rt, name, Duration::from_secs(seconds)) {
+    match lock_state(rt, name, seconds) {
         Err(RemoteError::StateInUse) => Err(RemoteError::ReaderInUse),
         other => other,
     }
 }
 
-fn read_alone<F: SystemFiles + SeenFiles + Dial + Clock, W: FallibleWrite>(
+fn read_alone<F: SystemFiles + SeenFiles + Dialing + Clock, W: FallibleWrite>(
     rt: &F,
     alloc: Global,
     socket: FileIdentity,
@@ -129,7 +172,7 @@ where
 }
 
 // Reads on from a bookmark. If the file is new, it has none yet.
-fn read_from<F: Files + Dial + Clock, W: FallibleWrite>(
+fn read_from<F: Files + Dialing + Clock, W: FallibleWrite>(
     rt: &F,
     alloc: Global,
     socket: FileIdentity,

@@ -6,12 +6,15 @@ ghost use Rattle.audit_cli_connection.specs.Faults.{IsNoBadArgument, remote_stat
 ghost use Rattle.audit_cli_base.specs.declared.fault.CommandError.TheVariants.{File};
 ghost use Rattle.audit_cli_connection.specs.declared.fault.RemoteError.TheVariants.{Command};
 ghost use Rattle.audit_cli_client.specs.Sent.{status_of_sent, nothing_sent, with_leg, placing_after, EndsSending};
+ghost use Rattle.audit_cli_client.specs.Sent.{KeepsConnections};
+ghost use Rattle.audit_cli_client.specs.SocketCalls.{EndsOver, SendsToSocket};
 
 use crate::legs::{Leg, Legs};
 use crate::outage::Outage;
 use audit_cli_base::{CommandError, Status};
-use audit_cli_connection::{Line, LineEnd, Pace, RemoteError, Task, connect, without_words};
-use audit_cli_host::Dial;
+use audit_cli_connection::{
+    Dialing, Line, LineEnd, Pace, RemoteError, Task, connect, without_words,
+};
 use audit_cli_witness::{lacks_feed, open_lines};
 use audit_text::{CutLines, LongLines};
 use audit_wire_ask::{
@@ -28,7 +31,7 @@ const INPUT_ROOM: usize = 1 << 16;
 
 /// Sends the events of the input to a server, and prints its answers. Returns the status of a command whose lines were
 /// all answered.
-pub fn send_to_socket<F: Files + Dial + Clock, R: Read, W: Write, M: Write>(
+pub fn send_to_socket<F: Files + Dialing + Clock, R: Read, W: Write, M: Write>(
     rt: &F,
     alloc: Global,
     socket: &str,
@@ -37,7 +40,9 @@ pub fn send_to_socket<F: Files + Dial + Clock, R: Read, W: Write, M: Write>(
     output: &mut W,
     messages: &mut M,
 ) -> Result<Status, RemoteError>
-    ensures { result ≡ Ok Status.Usage → ⊥ }
+    ensures usage { result ≡ Ok Status.Usage → ⊥ }
+    // A status comes only over a connection to the socket.
+    ensures sent { SendsToSocket (F.dials rt.now) socket.now task.entry.seconds result }
 {
     let mut keys = match task.keys {
         Some(path) => Some(KeyFile::new(begin_lines(rt, path)?)),
@@ -72,6 +77,7 @@ fn send_on<C: Clock, L: Legs, M: Write>(
     ensures ends { IfOk result (EndsSending (L.sent legs.new) (L.broke legs.new)) }
     // Only a connection or the clock fails, or there were as many tries as are counted.
     ensures fault { IfErr result (λ fault. L.broke legs.new fault ⊎ (fault ≡ Command File)) }
+    ensures kept { KeepsConnections L.reached L.broke legs.old legs.new }
 {
     let mut placing = task.placing;
     let mut outage = Outage::within(task.retry);
@@ -161,7 +167,11 @@ impl<'a, F, R, W, K> SystemLegs<'a, F, R, W, K> {
         input: &'a mut KeptInput<R>,
         output: &'a mut W,
         keys: &'a mut Option<K>,
-    ) -> SystemLegs<'a, F, R, W, K> {
+    ) -> SystemLegs<'a, F, R, W, K>
+        ensures rt { result.rt ≡ rt.entry }
+        ensures socket { result.socket ≡ socket.entry }
+        ensures task { result.task ≡ task.entry }
+    {
         SystemLegs {
             rt,
             alloc,
@@ -174,11 +184,19 @@ impl<'a, F, R, W, K> SystemLegs<'a, F, R, W, K> {
     }
 }
 
-// Nothing is known of the system's connections.
-impl<F: Dial + Clock, R: Read, W: Write, K: KeyLines> Legs for SystemLegs<'_, F, R, W, K> {
-    ghost sent = { λ _ _ _ _. Unit {0} };
+// Of the system's connections it is known that they were made.
+impl<F: Dialing + Clock, R: Read, W: Write, K: KeyLines> Legs for SystemLegs<'_, F, R, W, K> {
+    ghost use Rattle.std.specs.Prelude.{◌≡◌, ◌⊎◌};
+    ghost use Rattle.audit_cli_connection.specs.Dialing.{HasConnection, IsUnconnected};
+    ghost use Rattle.audit_cli_client.specs.Sent.{nothing_sent};
 
-    ghost broke = { λ _ _. Unit {0} };
+    ghost sent = { λ legs count placing total. ((count ≡ 0) × (total ≡ nothing_sent))
+        ⊎ HasConnection (F.dials legs.rt.now) legs.socket.now };
+
+    ghost reached = { λ legs. HasConnection (F.dials legs.rt.now) legs.socket.now };
+
+    ghost broke = { λ legs fault. HasConnection (F.dials legs.rt.now) legs.socket.now
+        ⊎ IsUnconnected (F.dials legs.rt.now) legs.socket.now legs.task.seconds fault };
 
     fn send(&mut self, placing: Placing, before: u64) -> Result<Leg, RemoteError> {
         let mut task = self.task;
@@ -201,7 +219,7 @@ impl<F: Dial + Clock, R: Read, W: Write, K: KeyLines> Legs for SystemLegs<'_, F,
 }
 
 // Sends over one connection, the lines after the first `before`.
-fn send_once<F: Dial + Clock, R: Read, W: Write, K: KeyLines>(
+fn send_once<F: Dialing + Clock, R: Read, W: Write, K: KeyLines>(
     rt: &F,
     alloc: Global,
     socket: &str,
@@ -210,7 +228,9 @@ fn send_once<F: Dial + Clock, R: Read, W: Write, K: KeyLines>(
     input: &mut KeptInput<R>,
     output: &mut W,
     keys: &mut Option<K>,
-) -> Result<Leg, RemoteError> {
+) -> Result<Leg, RemoteError>
+    ensures { EndsOver (F.dials rt.now) socket.now task.entry.seconds result }
+{
     let line = connect(rt, socket, task.seconds, Pace::Reply)?;
     let mut lines = BufReader::with_capacity(alloc, INPUT_ROOM, input)?;
     let (places, end) = send_over(alloc, task, before, &mut lines, &line, output, keys)?;
@@ -223,7 +243,9 @@ fn send_once<F: Dial + Clock, R: Read, W: Write, K: KeyLines>(
 }
 
 // Opens a file to which lines are appended. If its last line lacks its line feed, that is appended first.
-fn begin_lines<F: Files>(rt: &F, path: &str) -> Result<F::File, RemoteError> {
+fn begin_lines<F: Files>(rt: &F, path: &str) -> Result<F::File, RemoteError>
+    ensures { IfErr result (λ fault. fault ≡ Command File) }
+{
     let mut file = open_lines(rt, path)?;
     if lacks_feed(&mut file)? {
         file.write_all(b"\n")?;

@@ -1,6 +1,6 @@
 //! The servers that commands ask on a system with files, sockets and a clock.
 ghost use Rattle.std.specs.Prelude.{◌≡◌, true};
-ghost use Rattle.audit_cli_connection.specs.ServerCalls.{unknown_servers, IsUnfitExport};
+ghost use Rattle.audit_cli_connection.specs.ServerCalls.{IsUnfitExport};
 ghost use Rattle.audit_cli_client.specs.NamedFiles.{files_named};
 
 use crate::asking::{ask_socket, is_unfit_for_export};
@@ -9,7 +9,7 @@ use crate::seen_files::SeenFiles;
 use crate::sending::send_to_socket;
 use audit_cli_base::{CommandError, Status};
 use audit_cli_connection::{
-    Post, Question, ReadTask, RemoteError, Servers, Task, date_of_now, without_words,
+    Dialing, Post, Question, ReadTask, RemoteError, Servers, Task, date_of_now, without_words,
 };
 use audit_cli_host::Dial;
 use audit_cli_witness::look_by_file;
@@ -34,15 +34,16 @@ impl<'a, F> SystemServers<'a, F> {
     }
 }
 
-/// Nothing is known of the system's servers. Of a file that a word names it is known what its calls showed.
-impl<F: SystemFiles + SeenFiles + Dial + Clock> Servers for SystemServers<'_, F>
+/// Nothing is known of the bytes of the system's servers. It is known which connections were made, which locks failed,
+/// and of a file that a word names what its calls showed.
+impl<F: SystemFiles + SeenFiles + Dialing + Dial + Clock> Servers for SystemServers<'_, F>
 where
     F::File: SystemFile,
 {
-    ghost use Rattle.audit_cli_connection.specs.ServerCalls.{unknown_servers};
     ghost use Rattle.audit_cli_client.specs.NamedFiles.{files_named};
+    ghost use Rattle.audit_cli_client.specs.SocketCalls.{socket_calls};
 
-    ghost calls = { unknown_servers };
+    ghost calls = { socket_calls F.failed F.dials F.File.facts };
 
     ghost files = { λ servers. files_named F.File.facts F.File.remaining (F.is_no_file servers.rt.now) };
 
