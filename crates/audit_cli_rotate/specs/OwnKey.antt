@@ -1,6 +1,6 @@
 -- Whether a log began with a key.
 use Rattle.std.specs.Prelude.{◌≡◌, ◌↔◌, ℕ, Bool, true, false, Err, List, IsTrue}
-use Rattle.std_heap.specs.declared.Global.{Global}
+use Rattle.std.proofs.Common.{Global}
 use Rattle.audit_mac.specs.Hmac.{hmac}
 use Rattle.audit_disk_model.specs.declared.sectors.Sectors as sectors
 use Rattle.audit_chain.specs.Key.{evolved_key}
