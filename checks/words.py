@@ -1,5 +1,5 @@
-"""Every word has one meaning: the specs of two crates don't define the same name. And specs have definitions: only files of
-laws, named so, call a tactic.
+"""Every word has one meaning: the specs of two crates don't define the same name. And specs have definitions: only
+files of laws, named so, call a tactic.
 
 usage: bin/check words
 """

@@ -43,8 +43,8 @@ row_view file sectors start moment_of row_of clock failures fits in_range now wh
       left.1.2;
 }
 
--- How far a device has come over a file. Its clock counts the calls that the file had made at `base`, then kept writes up
--- to `split`, then further calls up to `reached`; the later ones were refused.
+-- How far a device has come over a file. Its clock counts the calls that the file had made at `base`, then kept writes
+-- up to `split`, then further calls up to `reached`; the later ones were refused.
 pub record FileProgress (file : FileView) : Type 0 where
   pub sectors : ℕ
   pub clock : ℕ
